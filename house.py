@@ -1,5 +1,5 @@
 #!/usr/bin/env python3
-"""Looks whether the house is in order: the map, the doors, the documents, the layers, the links.
+"""Looks whether the house is in order: the map, the doors, the documents, the layers, the sizes of crates, the links.
 
     house.py --map      writes the list of crates into docs/ARCHITECTURE.md, between its two marks
     house.py --check    says what is not as it has to be; the status is then 1
@@ -14,6 +14,8 @@ a colon, a semicolon or a bracket.
 stands in backticks is one word. Headings, tables, code and what a script writes do not count.
 
 **The layers** are those of crates.txt, the lowest first. A crate depends on crates of its own layer and of lower ones.
+
+**The sizes.** A crate has at most 1,500 lines in src/ and 100 functions, but for those that are named below.
 
 **The lemmas.** What a crate cites of another one's proofs stands in a module that proofs/Lib.antt of that crate opens (`pub mod`). What the toolchain makes for a type
 (`TheSendSync` and its like) is no lemma.
@@ -38,15 +40,15 @@ ALL_BYTES = 200_000
 # What each document has at most, in bytes.
 LIMITS = {
     "README.md": 4_500,
-    "CONTRIBUTING.md": 11_000,
-    "CHANGELOG.md": 8_000,
+    "CONTRIBUTING.md": 11_500,
+    "CHANGELOG.md": 7_500,
     "docs/ARCHITECTURE.md": 15_500,
-    "docs/BENCHMARKS.md": 14_000,
+    "docs/BENCHMARKS.md": 13_500,
     "docs/DECISIONS.md": 27_500,
-    "docs/DEFINITIONS.md": 18_500,
-    "docs/GUIDE.md": 19_500,
+    "docs/DEFINITIONS.md": 18_600,
+    "docs/GUIDE.md": 20_000,
     "docs/PROOFS.md": 7_500,
-    "docs/REFERENCE.md": 60_500,
+    "docs/REFERENCE.md": 60_000,
     "docs/STATUS.md": 9_000,
     "docs/WRONG_BODIES.md": 8_000,
 }
@@ -63,6 +65,10 @@ NO_README = {}
 
 # Crates that depend on one of a higher layer, and why.
 UPWARD = {}
+
+# How many lines of code and functions a crate has at most, and the crates that have more (docs/DECISIONS.md, 'Crates and copies', says why).
+LINES, FUNCTIONS = 1_500, 100
+LARGE = {"interp": (2_000, 101), "rows_texts": (LINES, 109), "tests_blocks": (1_900, FUNCTIONS), "tests_verdicts": (2_400, 106)}
 
 
 def layers():
@@ -200,6 +206,19 @@ def faults_of_crates():
     return faults + [f"house.py lets {name} depend on {below}, which it does not: take that out" for name, below in sorted(set(UPWARD) - upward)]
 
 
+def faults_of_sizes():
+    faults = []
+    for name in (name for _, crates in layers() for name in crates):
+        text = "".join(path.read_text() for path in (TOP / "crates" / name / "src").rglob("*.rt"))
+        found = text.count("\n"), len(re.findall(r"^ *(?:pub(?:\([a-z]+\))? )?(?:const )?fn \w", text, re.M))
+        for what, value, most in zip(("lines", "functions"), found, LARGE.get(name, (LINES, FUNCTIONS))):
+            if value > most:
+                faults.append(f"{name} has {value} {what}, and may have {most}")
+        if name in LARGE and all(value <= usual for value, usual in zip(found, (LINES, FUNCTIONS))):
+            faults.append(f"house.py lets {name} be large, which it is not: take that out")
+    return faults
+
+
 # ---- The lemmas ----
 
 
@@ -251,7 +270,7 @@ def main():
         print("{:24} {:7} bytes".format("together", sum(figures(name)[0] for name in documents())))
         return 0
     faults = [] if MAP.read_text() == with_map(MAP.read_text()) else ["the list of crates in docs/ARCHITECTURE.md is not as ./house.py --map writes it"]
-    faults += faults_of_documents() + faults_of_crates() + faults_of_lemmas() + faults_of_links()
+    faults += faults_of_documents() + faults_of_crates() + faults_of_sizes() + faults_of_lemmas() + faults_of_links()
     for fault in faults:
         print(f"house.py: {fault}", file=sys.stderr)
     return 1 if faults else 0

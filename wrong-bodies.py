@@ -2,7 +2,7 @@
 """Tries wrong bodies, which the prover has to refuse (docs/WRONG_BODIES.md).
 
     wrong-bodies.py NAME..        those of these crates: rows and edits
-    wrong-bodies.py --rows        the rows of all crates, as the gate does, and the edits on wrappers that `rt ci` does not try
+    wrong-bodies.py --rows        the rows of all crates, as the gate does, the edits on wrappers that `rt ci` does not try, and those inside four crates
     wrong-bodies.py --wrappers    all edits on wrappers, in the crates edits_*
     wrong-bodies.py --all         the rows and edits of all crates
     wrong-bodies.py --list        how many each crate has
@@ -48,18 +48,20 @@ TOP = pathlib.Path(__file__).resolve().parent
 DOCUMENT = TOP / "docs/WRONG_BODIES.md"
 FOLDERS = ("must-fail", "wrong-bodies")
 PARTS = ("src", "specs", "proofs")
-FUNCTION = re.compile(r"^( *)(?:pub(?:\([a-z]+\))? )?(?:const )?fn (\w+)", re.M)
+FUNCTION = re.compile(r"^( *)(?:pub(?:\([a-z]+\))? )?(?:const )?(?:extern \"C\" )?fn (\w+)", re.M)
 ITEM = r"(?:struct|enum|trait|type|const|static|const fn|fn) (\w+)"
 VERDICT = re.compile(r"^fn (\S+): (.*)$", re.M)
 # What a verdict begins with where nothing is known of the body itself.
 UNTOLD = ("could not tell", "no proof: it calls")
+# Crates inside which `--rows` tries edits, too: `rt ci` would check the whole crate once more for them, and this script checks their functions.
+INSIDE = ("abstract_locks", "lock_profile", "boost", "validator")
 
 
 class Crate:
     """A crate, as its line of crates.txt has it."""
 
-    def __init__(self, name, words):
-        self.name, self.words, self.folder = name, words, TOP / "crates" / name
+    def __init__(self, name, words, is_static=False):
+        self.name, self.words, self.is_static, self.folder = name, words, is_static, TOP / "crates" / name
         self.rows_file = self.folder / "wrong-bodies.rows"
 
     def edits(self, folders=FOLDERS):
@@ -75,7 +77,7 @@ def crates():
     for line in (TOP / "crates.txt").read_text().splitlines():
         head, colon, words = line.partition("#")[0].partition(":")
         if colon:
-            found[head.split()[0]] = Crate(head.split()[0], words.split())
+            found[head.split()[0]] = Crate(head.split()[0], words.split(), "staticlib" in head.split())
     return found
 
 
@@ -104,6 +106,7 @@ def command(crate, known, kit):
     for it in below(crate, known):
         words += ["-L", f"dependency={library(it).parent}"]
     words += ["--antt-project", f"{kit}/rattle/logic/antt-project.json", "--logic-built", f"{kit}/logic_built"]
+    words += ["--crate-type", "staticlib"] if crate.is_static else []
     return [*words, "--links", f"{crate.name}=", "--jobs", "1"]
 
 
@@ -573,7 +576,7 @@ def rounds_of(crate, edits):
 
 def path_of(crate, file, function, text):
     """The path by which a check names a function of a file of this text."""
-    head = re.search(rf"^( *)(?:pub(?:\([a-z]+\))? )?(?:const )?fn {function}\b", text, re.M)
+    head = re.search(rf"^( *)(?:pub(?:\([a-z]+\))? )?(?:const )?(?:extern \"C\" )?fn {function}\b", text, re.M)
     above = re.findall(r"^impl\b(.*)$", text[: head.start()], re.M) if head[1] else []
     owner = above[-1] if above else ""
     while "<" in owner:
@@ -633,23 +636,25 @@ def judge(round, ran):
     return lines
 
 
+def try_alone(crate, edit, words):
+    """Tries one edit, and gives what came of it."""
+    round = Round(crate)
+    round.takes(edit)
+    ran = check(round, words)
+    return (judge(round, ran) or [("failed", f"{edit.name}: BAD: {first_error(ran)}")])[0]
+
+
 def try_edits(crate, paths, words):
     """Tries edits of a crate, and gives what came of each."""
     edits = [Edit(crate, it) for it in paths]
     lines = [("failed", f"{it.name}: BAD: {it.why}") for it in edits if it.why]
     left = [it for it in edits if not it.why]
     for round in rounds_of(crate, left):
-        ran = check(round, words)
-        told = judge(round, ran)
-        if told is None and len(round.tried) > 1:
-            # one of them cannot be read, say
-            told = []
-            for edit in round.tried.values():
-                alone = Round(crate)
-                alone.takes(edit)
-                ran = check(alone, words)
-                told += judge(alone, ran) or [("failed", f"{edit.name}: BAD: {first_error(ran)}")]
-        lines += told or [("failed", f"{it.name}: BAD: {first_error(ran)}") for it in round.tried.values()]
+        tried = [*round.tried.values()]
+        told = judge(round, check(round, words)) if len(tried) > 1 else None
+        # an edit that waits for another one is tried alone, and so is each where one of them cannot be read, say
+        told = told or [None] * len(tried)
+        lines += [line if line and ": NOT TRIED: " not in line[1] else try_alone(crate, edit, words) for edit, line in zip(tried, told)]
     return lines
 
 
@@ -704,7 +709,7 @@ def wanted(crate, given):
     if given.all or crate.name in given.names:
         return crate.has_rows(), crate.edits()
     is_wrapper = crate.name.startswith("edits_")
-    folders = FOLDERS if is_wrapper and given.wrappers else ["wrong-bodies"] if is_wrapper and given.rows else []
+    folders = FOLDERS if is_wrapper and given.wrappers else ["wrong-bodies"] if given.rows and (is_wrapper or crate.name in INSIDE) else []
     return given.rows and crate.has_rows(), crate.edits(folders)
 
 
@@ -718,7 +723,7 @@ def try_crate(crate, given, known, kit):
 def main():
     parser = argparse.ArgumentParser(description="Tries wrong bodies, which the prover has to refuse.")
     parser.add_argument("names", nargs="*", metavar="NAME", help="crates whose wrong bodies are tried")
-    parser.add_argument("--rows", action="store_true", help="the rows of all crates, and the edits on wrappers that rt ci does not try")
+    parser.add_argument("--rows", action="store_true", help="the rows of all crates, and edits that rt ci does not try: on wrappers, and inside four crates")
     parser.add_argument("--wrappers", action="store_true", help="all edits on wrappers, in the crates edits_*")
     parser.add_argument("--all", action="store_true", help="the rows and edits of all crates")
     parser.add_argument("--list", action="store_true", help="only say how many each crate has")

@@ -1,20 +1,27 @@
-# What the scripts of this folder share. A script sources it with the name of its program's crate and the tools that it needs:
+# What the scripts of this folder share. A script sources it with the name of its program and the tools that it needs:
 #
-#   source "$(dirname "${BASH_SOURCE[0]}")/common.sh" CRATE [TOOL..]
+#   source "$(dirname "${BASH_SOURCE[0]}")/common.sh" PROGRAM [TOOL..]
 #
-# It goes to the repository's top; sets `program`, which `build` proves, builds and leaves in the crate's out/ (the first time takes some minutes), `wblock`, the
-# program that `build wblock` builds too, and `work`, a folder that is removed in the end. RT names the kit's command, `rt` if left out; RT=true takes the programs as they
-# are there. A script that uses the program hard takes one as its first word in place of `wblock`, and builds none (`take_program`).
+# It goes to the repository's top; sets `program`, which is `wblock`, or `bench`: the program `rows` with the word `bench`; `build` proves and builds it, and leaves it
+# in its crate's out/ (the first time takes some minutes); `wblock`, the program that `build wblock` builds too, and `work`, a folder that is removed in the end. RT names
+# the kit's command, `rt` if left out; RT=true takes the programs as they are there. A script that uses the program hard takes one as its first word in place of
+# `wblock`, and builds none (`take_program`).
 set -euo pipefail
 shopt -s inherit_errexit
 script=bench/$(basename "$0")
 called_in=$PWD
 cd "$(dirname "${BASH_SOURCE[0]}")/.."
-crate=$1
-program=$PWD/crates/$crate/out/$crate
 wblock=$PWD/crates/wblock/out/wblock
 work=$(mktemp -d)
 trap 'rm -rf "$work"' EXIT
+crate=wblock
+program=$wblock
+if [[ $1 == bench ]]; then
+  crate=rows
+  program=$work/bench
+  printf '#!/bin/sh\nexec %q bench "$@"\n' "$PWD/crates/rows/out/rows" >"$program"
+  chmod +x "$program"
+fi
 
 for tool in "${@:2}"; do
   if ! command -v "$tool" >/dev/null; then
@@ -35,7 +42,7 @@ fail() {
   exit 1
 }
 
-# Builds the script's program, and the programs of these crates. With no words a bench's program prints its usage line alone.
+# Builds the script's program, and the programs of these crates. With no words `rows` plays nothing.
 build() {
   local name
   for name in "$crate" "$@"; do

@@ -174,6 +174,9 @@ def agrees(program, *words):
     if status == json_status == 0:
         shown = json.loads(printed)
         printed = "".join(f"{line}\n" for line in LINES[shown["kind"]](shown))
+    elif status == json_status == 1:
+        refused = json.loads(printed)["refused"]
+        printed = " ".join(["refused", refused["kind"], *(number or "-" for number in refused["numbers"])]) + "\n"
     if status != json_status or text != printed:
         return differs(words, f"status {status} and {json_status}, or the JSON", text.splitlines(), printed.splitlines())
     return shown is None or shown["kind"] != "block" or len(words) > 1 or picture_agrees(program, words, shown)

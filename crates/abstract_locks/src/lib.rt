@@ -3,7 +3,7 @@
 
 ghost use Rattle.std.specs.Prelude.{◌≡◌, ◌+◌, ◌-◌, ◌<◌, ◌≤◌, ℕ, ◌↔◌, IsTrue, IfOk, OnOk, OnErr, Err, length, slice_set, replicate};
 ghost use Rattle.std.specs.FinMap as finite;
-ghost use Rattle.spec_ledger.specs.Modes.{join, join_held, goes_with, may_share};
+ghost use Rattle.spec_ledger.specs.Modes.{join, join_held};
 ghost use Rattle.abstract_locks.specs.Table.{AllShare, asked, others, row_at};
 ghost use Rattle.abstract_locks.specs.Held.{MayJoin, count_in, held_once};
 
@@ -13,7 +13,7 @@ mod sharing;
 
 use holders::Holders;
 use sharing::{Shared, Sharing, let_all_go};
-pub use spec_ledger::Mode;
+use spec_ledger::{Mode, goes_with};
 use std::alloc::{Allocator, Global};
 use std::marker::Model;
 use storage::{Lock, NoMemory};
@@ -30,13 +30,6 @@ pub fn join(a: Mode, b: Mode) -> Mode
     }
 }
 
-/// Whether two calls may hold a lock in these modes: Read goes with Read, Add with Add, and no other pair.
-pub fn goes_with(a: Mode, b: Mode) -> bool
-    ensures { result ≡ goes_with a b }
-{
-    matches!((a, b), (Mode::Read, Mode::Read) | (Mode::Add, Mode::Add))
-}
-
 /// A mode joined to what is held already, if anything is.
 pub fn join_to(mode: Mode, held: Option<Mode>) -> Mode
     ensures { result ≡ join_held mode held }
@@ -44,16 +37,6 @@ pub fn join_to(mode: Mode, held: Option<Mode>) -> Mode
     match held {
         None => mode,
         Some(held) => join(mode, held),
-    }
-}
-
-/// Whether a call may hold a lock in a mode beside what another call holds.
-pub fn may_hold(mode: Mode, held: Option<Mode>) -> bool
-    ensures { result ≡ may_share (Some mode) held }
-{
-    match held {
-        None => true,
-        Some(held) => goes_with(mode, held),
     }
 }
 

@@ -2,7 +2,7 @@
 use Rattle.std.proofs.Common.{◌≡◌, ℕ, suc, ◌<◌, true, List, [], ◌∷◌, length, get_or, refl, arith, nat_lt}
 use Rattle.std.specs.List.{list_all}
 use Rattle.std.proofs.lemmas.Bool.{lt-ltb}
-use Rattle.spec_syntax.specs.Limits.{both}
+use Rattle.spec_modules.specs.Limits.{both}
 
 pub each_below : (limit : ℕ) (xs : List ℕ) → ((i d : ℕ) → i < length xs → get_or xs i d < limit) → list_all (λ n. nat_lt n limit) xs ≡ true
 each_below limit [] h = refl

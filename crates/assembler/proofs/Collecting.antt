@@ -6,8 +6,8 @@ use Rattle.std.proofs.lemmas.Option.{none-some, same_Some}
 use Rattle.std.proofs.Math.ListN.{drop_of_length-le}
 use Rattle.std.proofs.lemmas.List.{drop-map, drop_more}
 use Rattle.std.proofs.lemmas.List.Folds.{list_all-append}
-use Rattle.spec_syntax.specs.Syntax as S
-use Rattle.spec_syntax.specs.Limits.{both, first, second, limits_fit, import_fits, global_fits, export_fits, element_fits, data_fits}
+use Rattle.spec_modules.specs.Syntax as S
+use Rattle.spec_modules.specs.Limits.{both, first, second, limits_fit, import_fits, global_fits, export_fits, element_fits, data_fits}
 use Rattle.spec_text.specs.Named as N
 use Rattle.spec_text.specs.Spaces.{Spaces}
 use Rattle.spec_text.specs.Fields.{count_imported}

@@ -1,7 +1,7 @@
 -- How deep the rest of a list is nested.
 use Rattle.std.proofs.Common.{◌≡◌, ℕ, ◌<◌, ◌≤◌, max, Bool, true, false, nat_le, List, length, get_or, drop, ap, ◌∙◌, sym, arith, ⊎_elim, ◌+◌}
 use Rattle.std.proofs.lemmas.Bool.{le-leb, lt-leb, leb-true, leb-false, cases_lt}
-use Rattle.spec_syntax.specs.Shape.{instr_depth, instrs_depth}
+use Rattle.spec_modules.specs.Shape.{instr_depth, instrs_depth}
 use Rattle.module_tree.specs.declared.instr.Instr.{Instr}
 use Rattle.module_tree.specs.View.{instr_view, instrs_view}
 use Rattle.module_tree.proofs.Walks.{drop_next}

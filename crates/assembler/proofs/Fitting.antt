@@ -3,8 +3,8 @@ use Rattle.std.proofs.Common.{◌≡◌, ℕ, Bool, true, false, ◌&&◌, nat_l
 use Rattle.std.specs.List.{list_all}
 use Rattle.std.proofs.lemmas.List.{length-map}
 use Rattle.std.proofs.lemmas.List.Folds.{list_all-map}
-use Rattle.spec_syntax.specs.Limits.{import_fits, func_fits, funcs_fit, limits_fit, global_fits, export_fits, start_fits, element_fits, data_fits, module_fits}
-use Rattle.spec_syntax.specs.Profile.{function_limit}
+use Rattle.spec_modules.specs.Limits.{import_fits, func_fits, funcs_fit, limits_fit, global_fits, export_fits, start_fits, element_fits, data_fits, module_fits}
+use Rattle.spec_modules.specs.Profile.{function_limit}
 use Rattle.module_tree.specs.declared.module.Func.{Func}
 use Rattle.module_tree.specs.ModuleView.{import_view, func_view, limits_view, global_view, export_view, element_view, data_view}
 use Rattle.assembler.specs.declared.builder_lists.Lists.{Lists}

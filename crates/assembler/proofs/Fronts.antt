@@ -3,7 +3,7 @@ use Rattle.std.proofs.Common.{◌≡◌, ℕ, ◌<◌, true, false, cond, List, 
 use Rattle.std.proofs.lemmas.Bool.{cond-false}
 use Rattle.std.proofs.lemmas.List.{map-append, reverse-append}
 use Rattle.std.proofs.lemmas.List.Folds.{list_all-append}
-use Rattle.spec_syntax.specs.Limits.{both, counts_from}
+use Rattle.spec_modules.specs.Limits.{both, counts_from}
 use Rattle.module_tree.specs.ModuleView.{all_numbered}
 use Rattle.text_resolve.specs.Types.{is_empty}
 

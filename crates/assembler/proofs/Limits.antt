@@ -4,11 +4,11 @@ use Rattle.std.specs.Prelude.{nat_le, ◌&&◌}
 use Rattle.std.specs.List.{All, list_all}
 use Rattle.std.proofs.lemmas.Bool.{leb-true, le-leb}
 use Rattle.std.proofs.lemmas.List.Elements.{All-head, All-tail}
-use Rattle.spec_syntax.specs.Syntax as S
-use Rattle.spec_syntax.specs.Profile.{function_limit, local_limit, byte_limit}
-use Rattle.spec_syntax.specs.Limits.{both, first, second, is_u32, expression_fits, func_fits, module_fits, module_fits-from, module_fits-means}
-use Rattle.spec_binary.specs.Shortest.{shortest}
-use Rattle.spec_binary.specs.Spells.{FuncFits, ModuleFits}
+use Rattle.spec_modules.specs.Syntax as S
+use Rattle.spec_modules.specs.Profile.{function_limit, local_limit, byte_limit}
+use Rattle.spec_modules.specs.Limits.{both, first, second, is_u32, expression_fits, func_fits, module_fits, module_fits-from, module_fits-means}
+use Rattle.spec_modules.specs.Shortest.{shortest}
+use Rattle.spec_modules.specs.Spells.{FuncFits, ModuleFits}
 use Rattle.text_fields.specs.Parts.{body_fits}
 use Rattle.assembler.specs.Made.{ExpressionsFit}
 use Rattle.assembler.specs.PartsView.{AreInRange}

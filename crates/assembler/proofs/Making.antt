@@ -4,8 +4,8 @@ use Rattle.std.specs.Prelude.{option_map, option_and_then, cond, is_none, slice_
 use Rattle.std.proofs.lemmas.Option.{none-some, same_Some}
 use Rattle.std.proofs.lemmas.Bool.{cond-true}
 use Rattle.std.proofs.lemmas.List.Elements.{All-head, All-tail, All-cons}
-use Rattle.spec_syntax.specs.Syntax as S
-use Rattle.spec_binary.specs.Spells.{ExpressionFits}
+use Rattle.spec_modules.specs.Syntax as S
+use Rattle.spec_modules.specs.Spells.{ExpressionFits}
 use Rattle.spec_text.specs.Named as N
 use Rattle.spec_text.specs.Spaces.{Names, Spaces, AreDistinct}
 use Rattle.spec_text.specs.TypeUses.{names_of, types_of, Uses, inline, alone, again, written_type}

@@ -1,9 +1,9 @@
 -- What a text names.
 use Rattle.std.proofs.Common.{◌≡◌, ℕ, ◌≤◌, List, length, Some, None, refl, sym, subst, ap, ◌∙◌}
 use Rattle.std.proofs.lemmas.Option.{none-some}
-use Rattle.spec_syntax.specs.Syntax as S
-use Rattle.spec_syntax.specs.Profile.{byte_limit}
-use Rattle.spec_binary.specs.Spells.{ModuleFits}
+use Rattle.spec_modules.specs.Syntax as S
+use Rattle.spec_modules.specs.Profile.{byte_limit}
+use Rattle.spec_modules.specs.Spells.{ModuleFits}
 use Rattle.spec_text.specs.Lexical.{Token, Lexes, LexesToOne}
 use Rattle.spec_text.specs.Named as N
 use Rattle.spec_text.specs.Placed as P

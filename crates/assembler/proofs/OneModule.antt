@@ -1,7 +1,7 @@
 -- No text names two modules.
 use Rattle.std.proofs.Common.{◌≡◌, List, sym, ◌∙◌, subst}
-use Rattle.spec_syntax.specs.Syntax as S
-use Rattle.spec_binary.specs.Spells.{ModuleFits}
+use Rattle.spec_modules.specs.Syntax as S
+use Rattle.spec_modules.specs.Spells.{ModuleFits}
 use Rattle.spec_text.specs.Lexical.{LexesToOne}
 use Rattle.spec_text.specs.Placed as P
 use Rattle.spec_text.specs.Spaces.{Spaces}

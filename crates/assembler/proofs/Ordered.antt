@@ -1,8 +1,8 @@
 -- Fields that make a module stand in the order of the rules.
 use Rattle.std.proofs.Common.{◌≡◌, ℕ, true, List, [], None, refl, sym}
 use Rattle.std.proofs.lemmas.Option.{none-some}
-use Rattle.spec_syntax.specs.Syntax as S
-use Rattle.spec_syntax.specs.Limits.{both}
+use Rattle.spec_modules.specs.Syntax as S
+use Rattle.spec_modules.specs.Limits.{both}
 use Rattle.spec_text.specs.Named as N
 use Rattle.spec_text.specs.Spaces.{Spaces}
 use Rattle.spec_text.specs.Fields.{Makes}

@@ -1,11 +1,11 @@
 -- The module that is sealed is the one that the fields make.
 use Rattle.std.proofs.Common.{◌≡◌, true, List, length, Some, sym, subst, ◌∙◌}
 use Rattle.std.specs.Prelude.{nat_le}
-use Rattle.spec_syntax.specs.Syntax as S
-use Rattle.spec_syntax.specs.Profile.{byte_limit}
-use Rattle.spec_syntax.specs.Limits.{module_fits}
-use Rattle.spec_binary.specs.Shortest.{shortest}
-use Rattle.spec_binary.specs.Spells.{ModuleFits}
+use Rattle.spec_modules.specs.Syntax as S
+use Rattle.spec_modules.specs.Profile.{byte_limit}
+use Rattle.spec_modules.specs.Limits.{module_fits}
+use Rattle.spec_modules.specs.Shortest.{shortest}
+use Rattle.spec_modules.specs.Spells.{ModuleFits}
 use Rattle.spec_text.specs.Named as N
 use Rattle.spec_text.specs.Spaces.{Spaces}
 use Rattle.spec_text.specs.Fields.{AreSpaces, Resolves, count_imported}

@@ -4,7 +4,7 @@ use Rattle.std.specs.Prelude.{◌&&◌}
 use Rattle.std.specs.List.{list_all}
 use Rattle.std.proofs.lemmas.List.{map-append, reverse-append}
 use Rattle.std.proofs.lemmas.List.Folds.{list_all-append}
-use Rattle.spec_syntax.specs.Limits.{both, first, second, counts_from}
+use Rattle.spec_modules.specs.Limits.{both, first, second, counts_from}
 use Rattle.wtypes.specs.declared.FuncType.{FuncType}
 use Rattle.wtypes.specs.declared.Limits.{Limits}
 use Rattle.module_tree.specs.declared.module.Import.{Import}

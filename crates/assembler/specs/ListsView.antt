@@ -1,9 +1,9 @@
 -- The module that lists in memory stand for.
 use Rattle.std.specs.Prelude.{◌≡◌, true, nat_le, length}
-use Rattle.spec_syntax.specs.Syntax as syntax
-use Rattle.spec_syntax.specs.Limits.{module_fits}
-use Rattle.spec_syntax.specs.Profile.{byte_limit}
-use Rattle.spec_binary.specs.Shortest.{shortest}
+use Rattle.spec_modules.specs.Syntax as syntax
+use Rattle.spec_modules.specs.Limits.{module_fits}
+use Rattle.spec_modules.specs.Profile.{byte_limit}
+use Rattle.spec_modules.specs.Shortest.{shortest}
 use Rattle.module_tree.specs.ModuleView.{module_of}
 use Rattle.assembler.specs.declared.builder_lists.Lists.{Lists}
 

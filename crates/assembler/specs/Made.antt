@@ -1,8 +1,8 @@
 -- The parts of a module that the fields of a text make, field by field from the last.
 use Rattle.std.specs.Prelude.{◌≡◌, ℕ, suc, List, [], ◌∷◌, ◌++◌, Option, Some, None, is_none, option_and_then, cond}
 use Rattle.std.specs.List.{All}
-use Rattle.spec_syntax.specs.Syntax as S
-use Rattle.spec_binary.specs.Spells.{ExpressionFits}
+use Rattle.spec_modules.specs.Syntax as S
+use Rattle.spec_modules.specs.Spells.{ExpressionFits}
 use Rattle.spec_text.specs.Named as N
 use Rattle.spec_text.specs.Spaces.{Spaces}
 use Rattle.spec_text.specs.Fields.{Makes}

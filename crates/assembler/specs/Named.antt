@@ -1,7 +1,7 @@
 -- Texts that name a module, and texts that name none.
 use Rattle.std.specs.Prelude.{List, ℕ}
-use Rattle.spec_syntax.specs.Syntax.{Module}
-use Rattle.spec_binary.specs.Spells.{ModuleFits}
+use Rattle.spec_modules.specs.Syntax.{Module}
+use Rattle.spec_modules.specs.Spells.{ModuleFits}
 use Rattle.spec_text.specs.Lexical.{Token, Lexes}
 use Rattle.spec_text.specs.Named.{Field}
 use Rattle.spec_text.specs.Placed as P

@@ -1,8 +1,8 @@
 -- What contracts see of parts that are listed from the last to the first.
 use Rattle.std.specs.Prelude.{◌≡◌, Bool, true, List, [], map, reverse}
 use Rattle.std.specs.List.{list_all}
-use Rattle.spec_syntax.specs.Syntax as S
-use Rattle.spec_syntax.specs.Limits.{limits_fit, import_fits, global_fits, export_fits, start_fits, element_fits, data_fits}
+use Rattle.spec_modules.specs.Syntax as S
+use Rattle.spec_modules.specs.Limits.{limits_fit, import_fits, global_fits, export_fits, start_fits, element_fits, data_fits}
 use Rattle.module_tree.specs.ModuleView.{import_view, func_view, limits_view, global_view, export_view, element_view, data_view, are_numbered}
 use Rattle.text_fields.specs.Parts.{body_fits}
 use Rattle.assembler.specs.declared.parts.Parts.{Parts}

@@ -1,7 +1,7 @@
 // Whether expressions keep the limits of this profile. A number of a tree is in range by its type.
 ghost use Rattle.std.specs.Prelude.{◌≡◌, nat_le, true};
-ghost use Rattle.spec_syntax.specs.Shape.{instr_depth, instrs_depth};
-ghost use Rattle.spec_syntax.specs.Limits as limit;
+ghost use Rattle.spec_modules.specs.Shape.{instr_depth, instrs_depth};
+ghost use Rattle.spec_modules.specs.Limits as limit;
 ghost use Rattle.module_tree.specs.View.{instr_view, instrs_view};
 
 use crate::ranges::{are_u32, is_u32, plain_in_range};

@@ -1,7 +1,7 @@
 // Whether the parts of a module keep the limits of this profile. A number of a part is in range by its type.
 ghost use Rattle.std.specs.Prelude.{◌≡◌, Bool};
 ghost use Rattle.std.specs.List.{list_all};
-ghost use Rattle.spec_syntax.specs.Limits as limit;
+ghost use Rattle.spec_modules.specs.Limits as limit;
 ghost use Rattle.module_tree.specs.ModuleView.{limits_view, import_view, func_view, global_view, export_view, element_view, data_view};
 
 use crate::builder_bodies::expression_fits;

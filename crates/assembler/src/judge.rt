@@ -1,9 +1,9 @@
 // Lists as a module.
 ghost use Rattle.std.specs.Prelude.{◌≡◌, true, nat_le, map, length, IfOk, IfErr};
-ghost use Rattle.spec_syntax.specs.Limits as limit;
-ghost use Rattle.spec_syntax.specs.Limits.{module_fits};
-ghost use Rattle.spec_syntax.specs.Profile.{byte_limit};
-ghost use Rattle.spec_binary.specs.Shortest.{shortest};
+ghost use Rattle.spec_modules.specs.Limits as limit;
+ghost use Rattle.spec_modules.specs.Limits.{module_fits};
+ghost use Rattle.spec_modules.specs.Profile.{byte_limit};
+ghost use Rattle.spec_modules.specs.Shortest.{shortest};
 ghost use Rattle.module_tree.specs.ModuleView.{are_numbered, func_view};
 ghost use Rattle.module_tree.specs.Modules.{module_view};
 ghost use Rattle.assembler.specs.ListsView.{lists_view, IsTooLarge};

@@ -1,7 +1,7 @@
 // Laws: the numbers of Rust's types are in range.
 ghost use Rattle.std.specs.Prelude.{◌≡◌, true};
 ghost use Rattle.std.specs.List.{list_all};
-ghost use Rattle.spec_syntax.specs.Limits as limit;
+ghost use Rattle.spec_modules.specs.Limits as limit;
 ghost use Rattle.module_tree.specs.ModuleView.{limits_view, import_desc_view, export_desc_view};
 
 use module_tree::module::{ExportDesc, ImportDesc};

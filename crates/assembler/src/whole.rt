@@ -1,7 +1,7 @@
 //! The module of a text's fields.
 ghost use Rattle.std.specs.Prelude.{◌≡◌, IfOk, IfErr};
 ghost use Rattle.module_tree.specs.Modules.{module_view};
-ghost use Rattle.spec_binary.specs.Spells.{ModuleFits};
+ghost use Rattle.spec_modules.specs.Spells.{ModuleFits};
 ghost use Rattle.spec_text.specs.Fields.{Resolves};
 ghost use Rattle.text_resolve.specs.Outcome.{Unless};
 ghost use Rattle.text_tree.specs.Views.{fields_of};

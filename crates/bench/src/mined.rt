@@ -10,7 +10,7 @@ use call::Call;
 use lock_profile::Touched;
 use miner::mine_core;
 use pace::NoPace;
-use serial::{copied, serial_core};
+use serial::serial_core;
 use spec_ledger::{Receipt, Version};
 use std::alloc::Global;
 use std::io;
@@ -18,7 +18,7 @@ use std::sync::Wait;
 use std::thread::Threads;
 use std::time::{Clock, Instant};
 use storage::Cells;
-use world::{World, digest_world};
+use world::{World, copied, digest_world};
 use wtypes::NoMemory;
 
 /// How often a worker tries a call.

@@ -1,13 +1,13 @@
 //! Threads that draw from one intake.
 ghost use Rattle.std.specs.Prelude.{◌≡◌, ◌<◌, true};
 ghost use Rattle.std.specs.List.{All};
-ghost use Rattle.intake.specs.Intakes.{IsSeatOf};
+ghost use Rattle.book_workers.specs.Intakes.{IsSeatOf};
 ghost use Rattle.bench.specs.Drawing.{HasDrawnAll};
 
 use crate::draw_plan::Plan;
 use crate::rates::a_second;
 use crate::refusals::no_memory;
-use intake::{Intake, Seat};
+use book_workers::{Intake, Seat};
 use std::alloc::Global;
 use std::sync::Wait;
 use std::thread::Threads;

@@ -3,8 +3,8 @@ use Rattle.std.specs.Prelude.{◌≡◌, ℕ, ◌-◌, Result, Err}
 use Rattle.spec_block.specs.Worlds.{Block}
 use Rattle.records.specs.declared.fault.Fault.{Fault}
 use Rattle.records.specs.declared.fault.Fault.TheVariants as fault
-use Rattle.block.specs.declared.refusal.BlockRefusal.{BlockRefusal}
-use Rattle.block.specs.declared.refusal.BlockRefusal.TheVariants.{Malformed, TooLarge, NoMemory}
+use Rattle.records.specs.declared.refusal.BlockRefusal.{BlockRefusal}
+use Rattle.records.specs.declared.refusal.BlockRefusal.TheVariants.{Malformed, TooLarge, NoMemory}
 
 -- the refusal is the fault of reading so many bytes, unless memory was refused
 abbrev pub Refuses : ℕ → BlockRefusal → Result Block Fault → Type 0

@@ -5,9 +5,8 @@ ghost use Rattle.byte_sinks.specs.Putting.{IsCutShort, IsRaised};
 ghost use Rattle.sha2.specs.Sha256.{sha256};
 ghost use Rattle.spec_block.specs.Bytes.{counted, value_bytes, call_bytes, calls_bytes};
 
-use crate::refusal::WriteRefusal;
 use crate::write::put_made;
-use byte_sinks::Sink;
+use byte_sinks::{Sink, WriteRefusal};
 use call::Call;
 use records::{append_u32, append_u64, append_value};
 use sha2::{Digest, Sha256};

@@ -4,14 +4,12 @@
 mod calls;
 mod laws;
 mod read;
-mod refusal;
 mod value;
 mod write;
 
 pub use calls::{digest_calls, write_calls};
 pub use laws::version_2_tells_all;
 pub use read::read_block;
-pub use records::Position;
-pub use refusal::{BlockRefusal, WriteRefusal};
+pub use records::{BlockRefusal, Position};
 pub use value::Block;
-pub use write::write_block;
+pub use write::{encode_block, number_of_version, write_block};

@@ -5,13 +5,12 @@ ghost use Rattle.spec_ledger.specs.declared.Version.{Version};
 ghost use Rattle.spec_block.specs.Worlds.{Block as TheBlock};
 ghost use Rattle.spec_block.specs.Bytes.{SpellsBlock};
 ghost use Rattle.records.specs.Reading.{Gives, items_at, front_at, whole};
-ghost use Rattle.block.specs.declared.refusal.BlockRefusal.TheVariants.{NoMemory};
+ghost use Rattle.records.specs.declared.refusal.BlockRefusal.TheVariants.{NoMemory};
 ghost use Rattle.block.specs.Reading.{version_named, version_at, smallest_position, next_position_at, positions_at, block_at};
 ghost use Rattle.block.specs.Refusals.{Refuses};
 
-use crate::refusal::BlockRefusal;
 use crate::value::Block;
-use records::{Fault, Position, read_position, read_tag, read_u32, read_u64};
+use records::{BlockRefusal, Fault, Position, read_position, read_tag, read_u32, read_u64};
 use spec_ledger::Version;
 use std::alloc::Allocator;
 

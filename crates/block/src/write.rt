@@ -1,18 +1,18 @@
 //! Writing a block.
 
-ghost use Rattle.std.specs.Prelude.{◌≡◌, ◌≤◌, ◌++◌, length, OnOk, IsErrOf, IsTrue};
+ghost use Rattle.std.specs.Prelude.{◌≡◌, ◌≤◌, ◌++◌, length, OnOk, IfOk, IsErrOf, IsTrue};
 ghost use Rattle.std.specs.List.{AllByRecursion};
 ghost use Rattle.byte_sinks.specs.Putting.{IsCutShort, IsRaised};
 ghost use Rattle.spec_ledger.specs.declared.Version.{Version};
 ghost use Rattle.spec_block.specs.Bytes.{block_bytes, counted, position_bytes, version_code, ForVersion};
 
 use crate::read::MAGIC;
-use crate::refusal::WriteRefusal;
 use crate::value::Block;
-use byte_sinks::{Sink, put_all};
+use byte_sinks::{Sink, WriteRefusal, put_all};
 use records::{Position, append_position, append_u32, append_u64};
 use spec_ledger::Version;
 use std::alloc::{AllocError, Allocator};
+use wtypes::NoMemory;
 
 /// Puts bytes that are made.
 pub(crate) fn put_made<S: Sink>(sink: &mut S, bytes: &[u8]) -> Result<(), WriteRefusal>
@@ -44,7 +44,7 @@ fn append_positions<A: Allocator>(
 }
 
 /// The number that stands for a version.
-fn number_of(version: Version) -> u32
+pub fn number_of_version(version: Version) -> u32
     ensures { result ≡ version_code version }
 {
     match version {
@@ -58,13 +58,26 @@ fn append_block<A: Allocator>(out: &mut Vec<u8, A>, block: &Block<A>) -> Result<
 {
     block.use_invariant();
     append_u32(out, MAGIC)?;
-    append_u32(out, number_of(block.version()))?;
+    append_u32(out, number_of_version(block.version()))?;
     out.extend_from_slice(block.before())?;
     out.extend_from_slice(block.calls())?;
     append_positions(block.version(), out, block.positions())?;
     append_u64(out, block.fuel())?;
     out.extend_from_slice(block.after())?;
     Ok(())
+}
+
+/// A block's bytes, those of its own version.
+///
+/// # Errors
+///
+/// Memory was refused.
+pub fn encode_block<A: Allocator>(alloc: A, block: &Block<A>) -> Result<Vec<u8, A>, NoMemory>
+    ensures { IfOk result (λ bytes. bytes.items ≡ block_bytes block.now) }
+{
+    let mut bytes = Vec::new(alloc);
+    append_block(&mut bytes, block)?;
+    Ok(bytes)
 }
 
 /// Writes a block's bytes, those of its own version.

@@ -3,7 +3,4 @@ pub mod Profiles
 pub mod Stages
 pub mod Sums
 mod Latest
-mod Fuels
-mod Prefixes
-mod PrefixSums
 mod Told

@@ -1,5 +1,4 @@
 pub mod Latest
 pub mod Judging
 pub mod Marks
-pub mod Turned
 pub mod Meeting

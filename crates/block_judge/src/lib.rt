@@ -4,11 +4,8 @@
 #![tactic(auto)]
 
 mod digests;
-mod fuel;
 mod laws;
 mod order;
-mod place;
-mod prefix;
 mod prefix_laws;
 mod reason;
 mod turns;
@@ -24,7 +21,6 @@ ghost use Rattle.block_judge.specs.Judging.{IfRejected, IsFirstFrom, NoneFrom, P
 pub use crate::digests::judge_digests;
 pub use crate::laws::first_is_verdict;
 pub use crate::order::{judge_order, numbers_of, remaining};
-pub use crate::prefix::{Met, met_by};
 pub use crate::prefix_laws::tells_of_the_run;
 pub use crate::reason::{JudgeRefusal, Reason};
 pub use crate::turns::judge_turns;

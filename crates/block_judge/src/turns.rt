@@ -6,18 +6,16 @@ ghost use Rattle.std.specs.Ordering.{eq_by_cmp};
 ghost use Rattle.spec_ledger.specs.Cells.{lock_cmp};
 ghost use Rattle.lock_profile.specs.Groups.{turn_next};
 ghost use Rattle.lock_profile.specs.Turns.{IsProfile};
-ghost use Rattle.spec_block.specs.Worlds.{Call as TheCall, World as TheWorld, profiles_of};
+ghost use Rattle.spec_block.specs.Worlds.{Call as TheCall, World as TheWorld, profiles_of, profiles_in};
 ghost use Rattle.spec_block.specs.Schedule.{HaveTurns};
 ghost use Rattle.spec_block.specs.Verdicts.{HasOtherTurns, HoldsOf, IsLeast};
 ghost use Rattle.block_judge.specs.Latest.{latest};
 ghost use Rattle.block_judge.specs.Judging.{IfRejected, IsFirstFrom, NoneFrom};
-ghost use Rattle.block_judge.specs.Turned.{lists_of};
 
 use crate::reason::{JudgeRefusal, Reason};
-use abstract_locks::goes_with;
 use block::{Block, Position};
 use lock_profile::Group;
-use spec_ledger::{Entry, Lock};
+use spec_ledger::{Entry, Lock, goes_with};
 use std::alloc::Allocator;
 use std::collections::BTreeMap;
 use wtypes::NoMemory;
@@ -75,8 +73,8 @@ fn first_other<A: Allocator + Copy>(
     positions: &[Position<A>],
 ) -> Result<Option<u32>, NoMemory>
     requires few { length positions.now < 2 ^ 32 }
-    ensures other { IfOk result (λ found. IfSome found (IsLeast (HasOtherTurns (lists_of positions.now)))) }
-    ensures same { IfOk result (λ found. IfNone found (HaveTurns (lists_of positions.now))) }
+    ensures other { IfOk result (λ found. IfSome found (IsLeast (HasOtherTurns (profiles_in positions.now)))) }
+    ensures same { IfOk result (λ found. IfNone found (HaveTurns (profiles_in positions.now))) }
 {
     let mut groups = BTreeMap::new(alloc);
     for (at, position) in positions.iter().enumerate() {

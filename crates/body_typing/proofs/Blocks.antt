@@ -2,7 +2,7 @@
 use Rattle.std.proofs.Common.{◌≡◌, ℕ, ◌+◌, ◌<◌, Bool, true, false, List, [], ◌∷◌, ◌++◌, Option, Some, None, Err, Vec, length, get_or, drop, reverse, option_and_then, true≢false, refl, sym, ap, subst, ◌∙◌, rules}
 use Rattle.std.proofs.lemmas.List.{reverse-append}
 use Rattle.wtypes.specs.declared.ValType.{ValType}
-use Rattle.spec_syntax.specs.Syntax as syntax
+use Rattle.spec_modules.specs.Syntax as syntax
 use Rattle.spec_typing.specs.Typing.{Context, of, in_block, Typed}
 use Rattle.spec_typing.specs.Modules as modules
 use Rattle.spec_typing.specs.Principal.{Stack, empty, guard, step, run, ends}

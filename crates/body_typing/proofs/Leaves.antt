@@ -2,7 +2,7 @@
 use Rattle.std.proofs.Common.{◌≡◌, ℕ, zero, suc, ◌^◌, ◌≤◌, ◌<◌, ◌&&◌, length, get_or, nat_le, Bool, true, false, List, [], ◌∷◌, Option, Some, None, option_map, option_and_then, Result, reverse, slice_get, map, refl, sym, ap, subst, ◌∙◌, arith, pow_mono}
 use Rattle.std.proofs.lemmas.Bool.Decides.{nat_tests}
 use Rattle.wtypes.specs.declared.ValType.{ValType}
-use Rattle.spec_syntax.specs.Syntax as syntax
+use Rattle.spec_modules.specs.Syntax as syntax
 use Rattle.spec_typing.specs.Modules.{type_at}
 use Rattle.spec_typing.specs.Principal.{Stack, same_result, leads, all_lead, arrow}
 use Rattle.body_typing.specs.declared.scope.TypeRefusal.{TypeRefusal}

@@ -1,7 +1,7 @@
 -- The index spaces of a module, as they are made.
 use Rattle.std.specs.Prelude.{◌≡◌, List, [], ◌∷◌, ◌++◌, Option, Some, None, map, length}
 use Rattle.std.specs.List.{filter_map}
-use Rattle.spec_syntax.specs.Syntax.{Import, Module}
+use Rattle.spec_modules.specs.Syntax.{Import, Module}
 use Rattle.spec_typing.specs.Modules as modules
 use Rattle.spec_typing.specs.Modules.{func_of, table_of, memory_of, global_of}
 use Rattle.module_tree.specs.ModuleView.{limits_view, global_type_view}

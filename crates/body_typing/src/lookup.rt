@@ -1,7 +1,7 @@
 // What instructions name.
 
 ghost use Rattle.std.specs.Prelude.{◌≡◌, ◌<◌, ◌^◌, nat_le, slice_get, reverse, option_map};
-ghost use Rattle.spec_numeric.specs.Storage.{load_width, store_width};
+ghost use Rattle.spec_modules.specs.Storage.{load_width, store_width};
 
 use crate::scope::Scope;
 use module_tree::width;

@@ -4,7 +4,7 @@ ghost use Rattle.std.specs.Prelude.{◌≡◌, ◌∷◌, ◌++◌, [], reverse,
 ghost use Rattle.spec_typing.specs.Typing.{of};
 ghost use Rattle.spec_typing.specs.Principal.{Stack, Operand, empty, anything, may_be, guard, pop, pop_type, arrow, ends};
 
-use crate::operators::same;
+use spec_modules::same_type;
 use std::alloc::{AllocError, Allocator};
 use std::marker::Model;
 use wtypes::ValType;
@@ -76,7 +76,7 @@ impl<W: Allocator> Operands<W> {
         match self.pop() {
             None => false,
             Some(None) => true,
-            Some(Some(found)) => same(wanted, found),
+            Some(Some(found)) => same_type(wanted, found),
         }
     }
 

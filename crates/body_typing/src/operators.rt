@@ -1,22 +1,10 @@
 // The types of operators.
 
 ghost use Rattle.std.specs.Prelude.{◌≡◌};
-ghost use Rattle.spec_numeric.specs.Operators;
-ghost use Rattle.spec_numeric.specs.Storage;
-ghost use Rattle.spec_typing.specs.Principal.{same_type};
+ghost use Rattle.spec_modules.specs.Operators;
+ghost use Rattle.spec_modules.specs.Storage;
 
 use wtypes::{BinOp, CvtOp, LoadOp, RelOp, StoreOp, TestOp, UnOp, ValType, Value};
-
-/// Whether these are one type.
-pub fn same(a: ValType, b: ValType) -> bool
-    ensures { result ≡ same_type a b }
-{
-    match (a, b) {
-        (ValType::I32, ValType::I32) => true,
-        (ValType::I64, ValType::I64) => true,
-        _ => false,
-    }
-}
 
 /// The type of a value.
 pub fn type_of(v: Value) -> ValType

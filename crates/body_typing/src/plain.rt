@@ -13,6 +13,7 @@ use crate::operands::Operands;
 use crate::operators;
 use crate::rule::Rule;
 use crate::scope::{Scope, TypeRefusal};
+use spec_modules::same_type;
 use std::alloc::Allocator;
 use wtypes::{LoadOp, PlainInstr, StoreOp, ValType};
 
@@ -95,7 +96,7 @@ fn choose<W: Allocator>(ops: &mut Operands<W>, place: Place) -> Result<(), TypeR
         (None, _) => ops.push(second)?,
         (Some(_), None) => ops.push(first)?,
         (Some(t), Some(u)) => {
-            if !operators::same(t, u) {
+            if !same_type(t, u) {
                 return Err(refused(place, Rule::Operand));
             }
             ops.push(first)?
@@ -349,7 +350,7 @@ fn same_block(a: Option<ValType>, b: Option<ValType>) -> bool
 {
     match (a, b) {
         (None, None) => true,
-        (Some(t), Some(u)) => operators::same(t, u),
+        (Some(t), Some(u)) => same_type(t, u),
         _ => false,
     }
 }

@@ -10,8 +10,8 @@ use Rattle.std.proofs.CrossingOver as over
 use Rattle.wtypes.specs.contracts.NoMemory as no_memory_row
 use Rattle.lock_profile.specs.contracts.Touched as touched_row
 use Rattle.lock_profile.proofs.Held.TheSendSync as held
-use Rattle.intake.specs.contracts.intake.Intake as intake_row
-use Rattle.intake.proofs.intake.Intake.TheSendSync as intake
+use Rattle.book_workers.specs.contracts.intake.Intake as intake_row
+use Rattle.book_workers.proofs.intake.Intake.TheSendSync as intake
 use Rattle.shards.specs.contracts.gate.NoGate as gate_row
 use Rattle.shards.specs.contracts.sharded.Shards as book_row
 use Rattle.shards.proofs.gate.NoGate.TheSendSync as gate

@@ -1,16 +1,11 @@
 -- What workers hand back.
-use Rattle.std.specs.Prelude.{◌≡◌, ℕ, List, Some, slice_get, All}
+use Rattle.std.specs.Prelude.{◌≡◌, List, All}
 use Rattle.spec_ledger.specs.Modes.{touched}
 use Rattle.spec_execution.specs.Configuration.{Setting}
 use Rattle.spec_execution.specs.Run.{ContractCall}
-use Rattle.interp.specs.Played.{Played}
+use Rattle.serial.specs.Runs.{IsRunOf}
 use Rattle.book_workers.specs.declared.attempt.CommittedRun.{CommittedRun}
 use Rattle.book_workers.specs.declared.worker.WorkerResult.{WorkerResult}
-
--- a run of the call of this number over these contracts
-pub record IsRunOf (setting : Setting) (calls : List ContractCall) (number : ℕ) (f : Played) : Type 0 where
-  pub lent : f.setting ≡ setting
-  pub call_is : slice_get calls number ≡ Some f.call
 
 -- a run of a call, with the locks that it asked for
 pub record IsCommitted {A : Type 0} (setting : Setting) (calls : List ContractCall) (c : CommittedRun A) : Type 0 where

@@ -5,18 +5,19 @@ ghost use Rattle.spec_ledger.specs.declared.Version.TheVariants.{Two};
 ghost use Rattle.interp.specs.Callee.{setting_view};
 ghost use Rattle.interp.specs.Progress.{IsFree, IsSameCall};
 ghost use Rattle.serial.specs.Going.{MayGoOn, IsEnded};
-ghost use Rattle.book_workers.specs.Handed.{IsRunOf, IsCommitted};
+ghost use Rattle.serial.specs.Runs.{IsRunOf};
+ghost use Rattle.book_workers.specs.Handed.{IsCommitted};
 
+use crate::Intake;
 use crate::admission::AdmissionLimit;
 use boost::book::{BeginRefusal, CommitRefusal, EnterRefusal, OpRefusal, Run};
 use call::Call;
-use intake::Intake;
 use interp::finished::Finished;
 use interp::machine::Machine;
 use link::deployed::Deployed as Contract;
 use lock_profile::Touched;
 use pace::{Pace, Step, must_stop_at};
-use serial::{HostRequest, next_request, touched_by};
+use serial::{Begun, HostRequest, begin, next_request, touched_by};
 use shards::{NoGate, Shards, Ticket};
 use spec_ledger::{NoMemory, Op, Reply, Version};
 use std::alloc::Allocator;
@@ -66,6 +67,7 @@ pub(crate) struct CallResult<'a, A: Allocator> {
 }
 
 /// Why an attempt is not committed.
+#[derive(Drop)]
 enum Stop {
     /// The book refused.
     Refused,
@@ -197,7 +199,7 @@ fn run<'a, A: Allocator + Copy, R: Wait, P: Pace>(
     }
 }
 
-/// Runs a live attempt to its end. A call without fuel for its first instruction is answered before an instance is made.
+/// Runs a live attempt to its end.
 fn play<'a, A: Allocator + Copy, R: Wait, P: Pace>(
     rt: &R,
     job: &Job<'_, 'a, A, P>,
@@ -209,16 +211,10 @@ fn play<'a, A: Allocator + Copy, R: Wait, P: Pace>(
 {
     let call = &job.calls[number as usize];
     let _limit = call.fuel();
-    if let Some(finished) = Finished::without_fuel(job.alloc, job.contracts, call, Version::Two) {
-        return Ok(finished);
-    }
-    match Machine::start(job.alloc, job.contracts, call) {
-        Ok(machine) => run(rt, job, ticket, number, machine),
-        // Memory was refused where the call opens.
-        Err(_) => match Finished::rejected(job.alloc, job.contracts, call, Version::Two) {
-            Some(finished) => Ok(finished),
-            None => Err(Stop::NoMemory),
-        },
+    match begin(job.alloc, job.contracts, call, Version::Two) {
+        Ok(Begun::Ended(finished)) => Ok(finished),
+        Ok(Begun::Runs(machine)) => run(rt, job, ticket, number, machine),
+        Err(NoMemory) => Err(Stop::NoMemory),
     }
 }
 

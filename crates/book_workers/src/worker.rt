@@ -2,12 +2,12 @@
 ghost use Rattle.std.specs.Prelude.{◌≡◌, ◌<◌, IfOk, OnOk, length};
 ghost use Rattle.spec_ledger.specs.declared.Version.TheVariants.{Two};
 ghost use Rattle.interp.specs.Callee.{setting_view};
-ghost use Rattle.intake.specs.Intakes.{IsSeatOf};
+ghost use Rattle.book_workers.specs.Intakes.{IsSeatOf};
 ghost use Rattle.book_workers.specs.Handed.{AreRuns};
 
+use crate::Seat;
 use crate::attempt::{CallResult, CommittedRun, Job, try_call};
 use call::Call;
-use intake::Seat;
 use pace::Pace;
 use spec_ledger::NoMemory;
 use std::alloc::Allocator;

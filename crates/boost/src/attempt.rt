@@ -19,7 +19,7 @@ use spec_ledger::{Inverse, Lock, Mode, Op, Outcome, Reply, TraceStep};
 use std::alloc::{Allocator, Global};
 use std::cmp::Ordering;
 use std::marker::Model;
-use storage::{Cells, NoMemory, lock, take_back_to};
+use storage::{Cells, NoMemory, lock, mode, take_back_to};
 
 /// A committed call.
 #[derive(Drop)]
@@ -157,17 +157,6 @@ impl<A: Allocator> Model for Attempt<A> {
     ghost view = { λ a. record { call = a.call; number = a.number; trace = a.trace.items; modes = touched a.trace.items; inverses = a.inverses.items } };
 
     ghost invariant = { λ a. AreMarks a.trace a.inverses.items a.marks };
-}
-
-/// The mode that an operation asks for.
-pub(crate) fn mode(op: Op) -> Mode
-    ensures { result ≡ mode_of op }
-{
-    match op {
-        Op::Get(_) | Op::Has(_) | Op::Total(_) => Mode::Read,
-        Op::Put(_, _) | Op::Del(_) => Mode::Excl,
-        Op::Add(_, _) => Mode::Add,
-    }
 }
 
 impl<A: Allocator + Copy> Attempt<A> {

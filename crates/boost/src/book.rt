@@ -9,14 +9,14 @@ ghost use Rattle.boost.specs.Numbered.{BegunAs, BegunWith, HasTrace, IsPassed};
 ghost use Rattle.spec_ledger.specs.Modes.{ops_of};
 ghost use Rattle.std.specs.FinMap as finite;
 
-use crate::attempt::{Attempt, CommittedCall, mode};
+use crate::attempt::{Attempt, CommittedCall};
 use crate::standing::{CallState, note_places, place_of};
 use crate::trace::same_trace;
 use abstract_locks::Table;
 use spec_ledger::{Lock, Op, Outcome, Reply, TraceStep};
 use std::alloc::{Allocator, Global};
 use std::marker::Model;
-use storage::{Cells, NoMemory, end_all, lock, returned, take_all_back};
+use storage::{Cells, NoMemory, end_all, lock, mode, returned, take_all_back};
 use thiserror::Error;
 
 /// The right to act for an attempt.

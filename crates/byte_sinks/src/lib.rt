@@ -3,8 +3,10 @@
 
 mod failures;
 mod memory;
+mod refusal;
 mod sink;
 
 pub use failures::Failures;
 pub use memory::MemorySink;
+pub use refusal::WriteRefusal;
 pub use sink::{Sink, SinkFault, put_all};

@@ -35,6 +35,18 @@ impl MemorySink {
     {
         self.bytes.as_slice()
     }
+
+    /// The bytes put, without the sink.
+    pub fn into_bytes(self) -> Vec<u8>
+        ensures { result.items ≡ bytes_of self }
+    {
+        let MemorySink {
+            bytes,
+            piece: _,
+            failures: _,
+        } = self;
+        bytes
+    }
 }
 
 impl Sink for MemorySink {

@@ -1,6 +1,6 @@
 -- What a session keeps.
 use Rattle.std.proofs.Common.{◌≡◌, ◌≢◌, ℕ, ◌+◌, ◌-◌, ◌<◌, ◌≤◌, true, false, true≢false, List, [], refl, sym, ap, ap₂, ◌∙◌, subst, arith, Option, Some, None, inl, inr, slice_index_or}
-use Rattle.std.specs.Prelude.{◌⊎◌, ◌==◌, IsSome, All, length, if◌then◌else◌}
+use Rattle.std.specs.Prelude.{◌⊎◌, ◌==◌, IsSome, All, length}
 use Rattle.std.proofs.lemmas.Bool.Decides.{eqb_tells}
 use Rattle.spec_ledger.specs.declared.Inverse.{Inverse}
 use Rattle.spec_ledger.specs.declared.Outcome.{Outcome}
@@ -14,9 +14,10 @@ use Rattle.spec_execution.specs.Turns.{shown, place_of}
 use Rattle.spec_execution.specs.Turning.{Turned, opened, turned, IsState}
 use Rattle.interp.specs.Progress.{Progress}
 use Rattle.interp.specs.Shown.{ending, ending_of}
+use Rattle.debugger.specs.declared.place.Place.{Place}
 use Rattle.debugger.specs.declared.cursor.Cursor.{Cursor}
 use Rattle.debugger.specs.declared.kept.Kept.{Kept}
-use Rattle.debugger.specs.Breaks.{is_set_at}
+use Rattle.debugger.specs.Breaks.{is_set_at, placed}
 use Rattle.debugger.specs.Cursors.{HasTurned, HasAnswered, IsAt, IsSameRun, IsCopy}
 use Rattle.debugger.specs.Keeping.{IsOfRun, AreSpaced, last_turns, AreKept, next_turns, IsKept, seen_at, HasNoBreakBetween}
 use Rattle.debugger.specs.SessionView.{SessionView, IsSessionView, session_view_of, ending_at, break_place_at, break_place_shown}
@@ -101,8 +102,8 @@ module _ {A : Type 0} (here cursor : Cursor A) (h : IsAt here) (k : IsAt cursor)
 
 -- ---- a state with as many turns has the same place
 
-abbrev break_place_of : Levels → ContractCall → (turns : ℕ) → Option (ℕ × ℕ)
-break_place_of x call turns = if x.inner.contract.number == call.contract then place_of (shown x.inner.contract call.fuel turns x.inner.config) else None
+abbrev break_place_of : Levels → ContractCall → (turns : ℕ) → Option Place
+break_place_of x call turns = placed x.inner.contract.number (place_of (shown x.inner.contract call.fuel turns x.inner.config))
 
 module _ {A : Type 0} (c d : Cursor A) (k : IsAt d) (run : IsSameRun c d) (u : SessionView) (is : IsSessionView u) (same : commands.IsSameRun (seen_at c) u) where
   pub same_place : u.turns ≡ d.machine.used → break_place_at u ≡ break_place_shown d.machine
@@ -111,10 +112,10 @@ module _ {A : Type 0} (c d : Cursor A) (k : IsAt d) (run : IsSameRun c d) (u : S
       same_config d k u.setting u.call u.cells u.turns u.config is.state (same.setting ∙ sym run.call.setting) (same.call ∙ sym run.call.call) (same.cells ∙ ap (λ s. s.cells) (sym run.start)) turns in
       ap (λ (l : ContractCall). break_place_of u.config l u.turns) (same.call ∙ sym run.call.call)
       ∙ ap₂ (λ (n : ℕ) (x : Levels). break_place_of x d.machine.call n) turns config_is
-      ∙ ap (λ (o : Option (ℕ × ℕ)). if d.machine.config.inner.contract.number == d.machine.call.contract then o else None) (sym (place_is d.machine k.turns.goes_on))
+      ∙ ap (placed d.machine.config.inner.contract.number) (sym (place_is d.machine k.turns.goes_on))
 
 -- one turn more, at whose end there is no break
-pub no_break_more : {A : Type 0} (breaks : List (ℕ × ℕ)) (c e : Cursor A) (m n : ℕ) → IsOfRun c e → e.machine.used ≡ n + 1 → is_set_at breaks (break_place_shown e.machine) ≡ false
+pub no_break_more : {A : Type 0} (breaks : List Place) (c e : Cursor A) (m n : ℕ) → IsOfRun c e → e.machine.used ≡ n + 1 → is_set_at breaks (break_place_shown e.machine) ≡ false
     → ((u : SessionView) → IsSessionView u → commands.IsSameRun (seen_at c) u → m < u.turns → u.turns ≤ n → is_set_at breaks (break_place_at u) ≡ false)
     → (u : SessionView) → IsSessionView u → commands.IsSameRun (seen_at c) u → m < u.turns → u.turns ≤ e.machine.used → is_set_at breaks (break_place_at u) ≡ false
 no_break_more breaks c e m n k used none so_far u is same above below = by_test (eqb_tells u.turns e.machine.used)
@@ -189,15 +190,15 @@ kept_first {A = A} origin here others h none k no_others last distance = record 
 -- ---- on to a break
 
 -- a break holds in a state where its machine says so
-seen_break : {A : Type 0} (c : Cursor A) (breaks : List (ℕ × ℕ)) → IsAt c → break_place_at (session_view_of c.machine c.start.now.cells breaks) ≡ break_place_shown c.machine
-seen_break c breaks at = ap (λ (o : Option (ℕ × ℕ)). if c.machine.config.inner.contract.number == c.machine.call.contract then o else None) (sym (place_is c.machine at.turns.goes_on))
+seen_break : {A : Type 0} (c : Cursor A) (breaks : List Place) → IsAt c → break_place_at (session_view_of c.machine c.start.now.cells breaks) ≡ break_place_shown c.machine
+seen_break c breaks at = ap (placed c.machine.config.inner.contract.number) (sym (place_is c.machine at.turns.goes_on))
 
 -- the end of a run is seen as its machine shows it
-pub seen_end : {A : Type 0} (P : Type 0) (c : Cursor A) (breaks : List (ℕ × ℕ)) → IsAt c → P ⊎ IsSome (ending c.machine) → P ⊎ IsSome (ending_at (session_view_of c.machine c.start.now.cells breaks))
+pub seen_end : {A : Type 0} (P : Type 0) (c : Cursor A) (breaks : List Place) → IsAt c → P ⊎ IsSome (ending c.machine) → P ⊎ IsSome (ending_at (session_view_of c.machine c.start.now.cells breaks))
 seen_end P c breaks at (inl h) = inl h
 seen_end P c breaks at (inr h) = inr (subst (λ (o : Option Outcome). IsSome o) (ending_is c.machine at.turns.goes_on) h)
 
-module _ {A : Type 0} (here start end : Cursor A) (at_here : IsAt here) (at_end : IsAt end) (breaks set : List (ℕ × ℕ)) (set_is : set ≡ breaks) (k : IsCopy here start) (run : IsSameRun here end)
+module _ {A : Type 0} (here start end : Cursor A) (at_here : IsAt here) (at_end : IsAt end) (breaks set : List Place) (set_is : set ≡ breaks) (k : IsCopy here start) (run : IsSameRun here end)
     (moves : (start.machine.used < end.machine.used) ⊎ (IsSome (ending start.machine) × (end ≡ start)))
     (stops : (is_set_at set (break_place_shown end.machine) ≡ true) ⊎ IsSome (ending end.machine)) (least : HasNoBreakBetween set here start.machine.used end.machine.used) where
   no_less : (start.machine.used < end.machine.used) ⊎ (IsSome (ending start.machine) × (end ≡ start)) → start.machine.used ≤ end.machine.used

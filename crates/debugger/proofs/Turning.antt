@@ -21,6 +21,7 @@ use Rattle.interp.specs.declared.turns.Status.TheVariants as status
 use Rattle.interp.specs.Progress.{Progress, GoesOn, Pauses, rests, leaves, IsProgress, IsProgressAt, IsOnRun, IsSameCall, IsStartOf, HasStepped, HasEntered, HasAsked, HasAnswered as HasTaken, AnsweredAt, HasReplied, HasLeft, HasGoneBack, HasClosed, IsToStop, IsDone, EndsAt, IsFree, IsLeftNext, mark_of}
 use Rattle.interp.specs.Shown.{IsShown, ending, ending_at, ending_of, ending_by, shown_at, config_shown, place_shown, outermost}
 use Rattle.interp.specs.Starting.{IsOpened}
+use Rattle.debugger.specs.declared.place.Place.{Place}
 use Rattle.debugger.specs.Cursors.{HasTurned, HasBegun, HasAnswered}
 use Rattle.debugger.specs.Undoing.{GoBack, AreNoted}
 use Rattle.debugger.specs.SessionView.{IsSessionView, session_view_of, level_shown}
@@ -377,5 +378,5 @@ shown_inner (Some r) c e = absurd (cc)
 
 -- ---- what a session shows is the state
 
-abbrev pub is_sight : (p : Progress) (start : Cells) (breaks : List (ℕ × ℕ)) → HasTurned p → GetsReplies p.trace start → IsSessionView (session_view_of p start breaks)
+abbrev pub is_sight : (p : Progress) (start : Cells) (breaks : List Place) → HasTurned p → GetsReplies p.trace start → IsSessionView (session_view_of p start breaks)
 is_sight p start breaks h replies = record { func = p.func; opens = h.opens; state = record { contract = p.contract; func = p.func; starts = h.opens; trace = p.trace; turns = h.turned; replies = replies }; trace_is = refl }

@@ -1,5 +1,6 @@
 -- What the commands of a session do.
 use Rattle.std.specs.Prelude.{◌≡◌, ℕ, ◌+◌, ◌*◌, ◌<◌, ◌≤◌, ◌⊎◌, false, true, List, [], Result, Ok, Err, None, IsSome, take, drop, length, Vec}
+use Rattle.debugger.specs.declared.place.Place.{Place}
 use Rattle.debugger.specs.declared.session.Refusal.{Refusal}
 use Rattle.debugger.specs.declared.session.Refusal.TheVariants.{BeforeStart, NoSuchPlace, OutOfRange, NoMemory}
 use Rattle.spec_ledger.specs.Cells.{Cells}
@@ -51,8 +52,8 @@ pub record HasGoneBack (s : SessionView) (n : ℕ) (t : SessionView) : Type 0 wh
 abbrev pub AreFew : (fuel again : ℕ) → Type 0
 AreFew fuel again = (again < 1024) ⊎ (32 * again ≤ fuel)
 
--- a state has a break at its place, in a level that runs the contract that is called
-abbrev pub IsAtBreak : List (ℕ × ℕ) → SessionView → Type 0
+-- a state has a break at its place, in the contract that its innermost level runs
+abbrev pub IsAtBreak : List Place → SessionView → Type 0
 IsAtBreak breaks s = is_set_at breaks (break_place_at s) ≡ true
 
 -- on to the least later state that has a break at its place, or to the end; at the end it stays
@@ -77,14 +78,14 @@ abbrev pub Continues : SessionView → Result ℕ Refusal → SessionView → Ty
 Continues s (Ok made) t = HasContinued s made t
 Continues s (Err r) t = (r ≡ NoMemory) × (t ≡ s)
 
-abbrev pub Breaks : {U : Type 0} → SessionView → ℕ × ℕ → Result U Refusal → SessionView → Type 0
-Breaks s p (Ok u) t = IsSome (instr_there s.contract.deployed.tree p) × (t ≡ record s { breaks = with_break s.breaks p })
-Breaks s p (Err NoSuchPlace) t = (instr_there s.contract.deployed.tree p ≡ None) × (t ≡ s)
-Breaks s p (Err r) t = (r ≡ NoMemory) × IsSome (instr_there s.contract.deployed.tree p) × (t ≡ s)
+abbrev pub Breaks : {U : Type 0} → SessionView → Place → Result U Refusal → SessionView → Type 0
+Breaks s p (Ok u) t = IsSome (instr_there s.setting.contracts p) × (t ≡ record s { breaks = with_break s.breaks p })
+Breaks s p (Err NoSuchPlace) t = (instr_there s.setting.contracts p ≡ None) × (t ≡ s)
+Breaks s p (Err r) t = (r ≡ NoMemory) × IsSome (instr_there s.setting.contracts p) × (t ≡ s)
 
-abbrev pub Clears : {U : Type 0} → SessionView → ℕ × ℕ → Result U Refusal → SessionView → Type 0
-Clears s p (Ok u) t = IsSome (instr_there s.contract.deployed.tree p) × (t ≡ record s { breaks = without_break s.breaks p })
-Clears s p (Err r) t = (r ≡ NoSuchPlace) × (instr_there s.contract.deployed.tree p ≡ None) × (t ≡ s)
+abbrev pub Clears : {U : Type 0} → SessionView → Place → Result U Refusal → SessionView → Type 0
+Clears s p (Ok u) t = IsSome (instr_there s.setting.contracts p) × (t ≡ record s { breaks = without_break s.breaks p })
+Clears s p (Err r) t = (r ≡ NoSuchPlace) × (instr_there s.setting.contracts p ≡ None) × (t ≡ s)
 
 -- the bytes, exactly where all of them lie in memory
 abbrev pub Reads : {A : Type 0} → SessionView → (from count : ℕ) → Result (Vec ℕ A) Refusal → Type 0

@@ -1,5 +1,6 @@
 -- What a session keeps.
 use Rattle.std.specs.Prelude.{◌≡◌, ℕ, ◌+◌, ◌*◌, ◌<◌, ◌≤◌, ◌⊎◌, false, List, [], ◌∷◌, length, All}
+use Rattle.debugger.specs.declared.place.Place.{Place}
 use Rattle.debugger.specs.declared.cursor.Cursor.{Cursor}
 use Rattle.debugger.specs.declared.kept.Kept.{Kept}
 use Rattle.debugger.specs.SessionView.{SessionView, IsSessionView, session_view_of, break_place_at}
@@ -55,5 +56,5 @@ abbrev pub seen_at : {A : Type 0} → Cursor A → SessionView
 seen_at c = session_view_of c.machine c.start.now.cells []
 
 -- no state of the run after more than m turns and fewer than n has a break at its place
-abbrev pub HasNoBreakBetween : {A : Type 0} → List (ℕ × ℕ) → Cursor A → (m n : ℕ) → Type 0
+abbrev pub HasNoBreakBetween : {A : Type 0} → List Place → Cursor A → (m n : ℕ) → Type 0
 HasNoBreakBetween breaks c m n = (u : SessionView) → IsSessionView u → commands.IsSameRun (seen_at c) u → m < u.turns → u.turns < n → is_set_at breaks (break_place_at u) ≡ false

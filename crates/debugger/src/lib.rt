@@ -7,9 +7,13 @@ ghost use Rattle.debugger.specs.SessionView.{StatesHavePlaces};
 mod breaks;
 mod cursor;
 mod kept;
+mod place;
 pub mod session;
 mod undo;
 
+pub use crate::place::Place;
+/// A frame that is open.
+pub use interp_state::frames::OpenFrame;
 /// A contract, as the machine takes it.
 pub use link::deployed::Deployed as Contract;
 

@@ -1,20 +1,23 @@
 // A debugger's session.
-ghost use Rattle.std.specs.Prelude.{◌≡◌, ◌+◌, ◌<◌, ◌≤◌, ◌⊎◌, IsSome, IsTrue, ◌↔◌, IfOk, OnOk, true};
+ghost use Rattle.std.specs.Prelude.{◌≡◌, ◌+◌, ◌<◌, ◌≤◌, ◌⊎◌, IsSome, IsTrue, ◌↔◌, IfOk, OnOk, option_map, true};
+ghost use Rattle.module_tree.specs.ModuleView.{export_desc_view};
 ghost use Rattle.interp.specs.Progress.{IsSameCall};
 ghost use Rattle.interp.specs.Shown.{ending, AreReadOf};
-ghost use Rattle.debugger.specs.Breaks.{is_set_at, instr_there};
+ghost use Rattle.debugger.specs.Breaks.{is_set_at, instr_there, function_of};
 ghost use Rattle.debugger.specs.Cursors.{IsAt, IsSameRun};
-ghost use Rattle.debugger.specs.SessionView.{break_place_shown, memory_shown};
+ghost use Rattle.debugger.specs.SessionView.{break_place_shown, memory_shown, stands};
 ghost use Rattle.debugger.specs.Keeping.{IsOfRun, AreKept, next_turns, IsEarlier, HasNoBreakBetween};
 
-use crate::Contract;
 use crate::breaks::{clear_break, has_break, set_break};
 use crate::cursor::{Cursor, copy, make_turns, open};
 use crate::kept::{Kept, nearest, none_kept, turn_and_keep};
+use crate::place::Place;
+use crate::{Contract, OpenFrame};
 use call::Call;
 use interp::readers::BytesRefusal;
 use interp::start::StartRefusal;
-use spec_ledger::{NoMemory, Outcome, Version};
+use module_tree::module::ExportDesc;
+use spec_ledger::{NoMemory, Outcome, TraceStep, Version};
 use std::alloc::Allocator;
 use std::marker::Model;
 use storage::Cells;
@@ -69,14 +72,14 @@ impl From<NoMemory> for Refusal {
 /// A call that runs alone over cells, at one of its states. Contracts see the call, the number of turns that were made, and the
 /// configuration after them, which the type keeps to be that state. Beside the first state and the present one it holds copies of at
 /// most 64 others, each with the levels, the cells and the trace of its time, so that few turns are made again to go back: fewer
-/// than 1,024, or at most a 32nd of the call's fuel. Breaks hold in each level that runs the contract that is called.
+/// than 1,024, or at most a 32nd of the call's fuel. A break holds in each level that runs its contract.
 #[derive(Drop)]
 pub struct Session<'a, A: Allocator + Copy> {
     alloc: A,
     origin: Cursor<'a, A>,
     here: Cursor<'a, A>,
     kept: Kept<'a, A>,
-    breaks: Vec<(u32, u32), A>,
+    breaks: Vec<Place, A>,
 }
 
 impl<'a, A: Allocator + Copy> Model for Session<'a, A> {
@@ -113,16 +116,21 @@ fn state_after<'a, A: Allocator + Copy>(
     Ok((cursor, again))
 }
 
-// Whether a break is set at the place of the instruction to come, in a level that runs the contract that is called.
-fn is_at_break<'a, A: Allocator + Copy>(cursor: &Cursor<'a, A>, breaks: &[(u32, u32)]) -> bool
+// Whether a break is set at the place of the instruction to come.
+fn is_at_break<'a, A: Allocator + Copy>(cursor: &Cursor<'a, A>, breaks: &[Place]) -> bool
     requires { IsAt cursor.now }
     ensures { result ≡ is_set_at breaks.now (break_place_shown cursor.now.machine) }
 {
-    if cursor.machine.contract() != cursor.machine.called() {
-        return false;
-    }
+    let contract = cursor.machine.contract();
     match cursor.machine.place() {
-        Some(place) => has_break(breaks, place),
+        Some((func, ordinal)) => has_break(
+            breaks,
+            Place {
+                contract,
+                func,
+                ordinal,
+            },
+        ),
         None => false,
     }
 }
@@ -143,11 +151,41 @@ fn bytes_shown<'a, A: Allocator + Copy>(
     }
 }
 
-// Whether there is an instruction of this ordinal in the body of this function.
-fn is_place<'a, A: Allocator + Copy>(cursor: &Cursor<'a, A>, func: u32, ordinal: u32) -> bool
-    ensures { IsTrue result ↔ IsSome (instr_there cursor.now.machine.contract.deployed.tree (func, ordinal)) }
+// Whether there is an instruction at the place.
+fn is_place<'a, A: Allocator + Copy>(cursor: &Cursor<'a, A>, place: Place) -> bool
+    ensures { IsTrue result ↔ IsSome (instr_there cursor.now.machine.setting.contracts place) }
 {
-    cursor.machine.module().instr_at(func, ordinal).is_some()
+    match cursor.machine.contracts().get(place.contract as usize) {
+        Some(contract) => contract
+            .module()
+            .instr_at(place.func, place.ordinal)
+            .is_some(),
+        None => false,
+    }
+}
+
+// Whether what a call has done stands: while it runs, and where it has returned.
+fn stands(ending: Option<Outcome>) -> bool
+    ensures { result ≡ stands ending }
+{
+    match ending {
+        None => true,
+        Some(Outcome::Returned(_)) => true,
+        Some(_) => false,
+    }
+}
+
+// The number of the function that is exported.
+fn function_of(desc: Option<ExportDesc>) -> Option<u32>
+    ensures { result ≡ function_of (option_map export_desc_view desc) }
+{
+    match desc {
+        Some(ExportDesc::Func(func)) => Some(func),
+        Some(ExportDesc::Table(_)) => None,
+        Some(ExportDesc::Memory(_)) => None,
+        Some(ExportDesc::Global(_)) => None,
+        None => None,
+    }
 }
 
 // Makes so many turns, or as many as there are, and answers how many. It keeps states on the way.
@@ -183,7 +221,7 @@ fn go_on<'a, A: Allocator + Copy>(
     here: &Cursor<'a, A>,
     cursor: &mut Cursor<'a, A>,
     kept: &mut Kept<'a, A>,
-    breaks: &[(u32, u32)],
+    breaks: &[Place],
 ) -> Result<(), NoMemory>
     requires cursor { IsOfRun here.now cursor.old }
     requires kept { AreKept here.now kept.old }
@@ -205,11 +243,15 @@ fn go_on<'a, A: Allocator + Copy>(
 }
 
 impl<'a, A: Allocator + Copy> Session<'a, A> {
-    ghost use Rattle.std.specs.Prelude.{◌≡◌, IfOk, IfErr};
+    ghost use Rattle.std.specs.Prelude.{◌≡◌, None, IfOk, IfErr};
+    ghost use Rattle.std.specs.FinMap.{get};
+    ghost use Rattle.spec_ledger.specs.declared.Lock.{Lock};
+    ghost use Rattle.spec_ledger.specs.Modes.{touched};
     ghost use Rattle.spec_execution.specs.Run.{opening};
     ghost use Rattle.interp.specs.Callee.{setting_view};
     ghost use Rattle.interp.specs.Starting.{IsRefusedFor, HasPlace, wrong_in};
-    ghost use Rattle.debugger.specs.SessionView.{IsSessionView, ending_at, place_at, contract_at, level_at, asks_at, stack_at, locals_at, globals_at};
+    ghost use Rattle.debugger.specs.SessionView.{IsSessionView, ending_at, place_at, contract_at, level_at, asks_at, cells_at, frames_at, stack_at, locals_at, globals_at};
+    ghost use Rattle.debugger.specs.Breaks.{exported_function};
     ghost use Rattle.debugger.specs.Commands.{IsOpened, Steps, GoesBack, Continues, Breaks, Clears, Reads};
 
     /// A session of the call alone over these cells by the rules of this version, before its first turn.
@@ -297,36 +339,50 @@ impl<'a, A: Allocator + Copy> Session<'a, A> {
         Ok(made)
     }
 
-    /// Sets a break at the instruction of this ordinal in the body of this function of the contract that is called. Imported
-    /// functions are counted, and have no body.
+    /// Sets a break at the instruction at this place, in each level that runs its contract. Imported functions have no body.
     ///
     /// # Errors
     ///
     /// `NoSuchPlace` exactly where there is no such instruction, else `NoMemory` where memory was refused. The session is as
     /// it was.
-    pub fn break_at(&mut self, func: u32, ordinal: u32) -> Result<(), Refusal>
-        ensures { Breaks self.old (func, ordinal) result self.new }
+    pub fn break_at(&mut self, place: Place) -> Result<(), Refusal>
+        ensures { Breaks self.old place result self.new }
     {
-        if !is_place(&self.here, func, ordinal) {
+        if !is_place(&self.here, place) {
             return Err(Refusal::NoSuchPlace);
         }
-        set_break(&mut self.breaks, (func, ordinal))?;
+        set_break(&mut self.breaks, place)?;
         Ok(())
     }
 
-    /// Clears the break at this instruction, if there is one.
+    /// Clears the break at this place, if there is one.
     ///
     /// # Errors
     ///
     /// `NoSuchPlace` exactly where there is no such instruction. The session is as it was.
-    pub fn clear(&mut self, func: u32, ordinal: u32) -> Result<(), Refusal>
-        ensures { Clears self.old (func, ordinal) result self.new }
+    pub fn clear(&mut self, place: Place) -> Result<(), Refusal>
+        ensures { Clears self.old place result self.new }
     {
-        if !is_place(&self.here, func, ordinal) {
+        if !is_place(&self.here, place) {
             return Err(Refusal::NoSuchPlace);
         }
-        clear_break(&mut self.breaks, (func, ordinal));
+        clear_break(&mut self.breaks, place);
         Ok(())
+    }
+
+    /// The number of the contract that is called.
+    pub fn called(&self) -> u32
+        ensures { result ≡ self.now.call.contract }
+    {
+        self.here.machine.called()
+    }
+
+    /// The number of the function that the contract that is called exports under a name. None where it exports no function
+    /// under it.
+    pub fn exported_function(&self, name: &str) -> Option<u32>
+        ensures { result ≡ exported_function self.now.contract.deployed.tree name.now }
+    {
+        function_of(self.here.machine.deployed().exported(name))
     }
 
     /// How many turns were made, which is the fuel that they used. What the session shows is the state after them.
@@ -376,6 +432,47 @@ impl<'a, A: Allocator + Copy> Session<'a, A> {
         ensures { result ≡ asks_at self.now }
     {
         self.here.machine.entered()
+    }
+
+    /// The frames that are open at all levels, from the outer level and its outer frame on, each with the instruction that it goes
+    /// on with once those inside it are left. Where the call has returned or trapped there is none; where the fuel is out they are
+    /// those that were open.
+    ///
+    /// # Errors
+    ///
+    /// Memory was refused.
+    pub fn frames(&self) -> Result<Vec<OpenFrame, A>, NoMemory>
+        ensures { IfOk result (λ frames. frames.items ≡ frames_at self.now) }
+    {
+        self.here.machine.frames()
+    }
+
+    /// The operations that the call has asked for with their replies, and the marks of levels.
+    pub fn trace(&self) -> &[TraceStep]
+        ensures { result.now ≡ self.now.trace }
+    {
+        self.here.machine.trace()
+    }
+
+    /// The cells at the start.
+    pub fn start(&self) -> &Cells<A>
+        ensures { result.now.cells ≡ self.now.cells }
+    {
+        self.here.start
+    }
+
+    /// The cells that stand: those after the operations of the call, but for those of levels that were dropped; after an end other
+    /// than a return those at the start. A cell whose lock the call has not asked for is as it was at the start.
+    pub fn cells(&self) -> &Cells<A>
+        ensures cells { result.now.cells ≡ cells_at self.now }
+        ensures others { (lock : Lock) → get (touched self.now.trace) lock ≡ None → get (cells_at self.now) lock ≡ get self.now.cells lock }
+    {
+        self.here.start.use_invariant();
+        if stands(self.here.machine.ending()) {
+            &self.here.cells
+        } else {
+            self.here.start
+        }
     }
 
     /// The values of the innermost frame, bottom first. After the end they are the returned value, if there is one.

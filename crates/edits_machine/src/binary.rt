@@ -1,8 +1,8 @@
 //! Modules, read from their bytes and spelled.
 
 ghost use Rattle.std.specs.Prelude.{◌≡◌, ◌<◌, length, Err, IfOk, IfErr};
-ghost use Rattle.spec_syntax.specs.Profile.{byte_limit};
-ghost use Rattle.spec_binary.specs.Spells.{Spells};
+ghost use Rattle.spec_modules.specs.Profile.{byte_limit};
+ghost use Rattle.spec_modules.specs.Spells.{Spells};
 ghost use Rattle.module_tree.specs.Modules.{module_view};
 ghost use Rattle.expr_reader.specs.Outcome.{Unless};
 ghost use Rattle.expr_reader.specs.declared.LoadRefusal.TheVariants.{TooLarge};

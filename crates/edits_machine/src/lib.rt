@@ -1,10 +1,12 @@
-//! What the contracts of modules, of the machine, of calls over cells and of the debugger refuse: each function calls one function of these and has its
-//! contract.
+//! What the contracts of modules, of the machine, of calls over cells, of worlds and blocks and of the debugger refuse: each function calls one function of
+//! these and has its contract.
 #![tactic(auto)]
 
 pub mod binary;
+pub mod blocks_written;
 pub mod calls;
 pub mod judged;
+pub mod judgement;
 pub mod links;
 pub mod loops;
 pub mod memories;
@@ -15,3 +17,4 @@ pub mod straight_line;
 pub mod texts;
 pub mod tokens;
 pub mod types;
+pub mod worlds_read;

@@ -1,7 +1,7 @@
 //! Linear memory.
 
 ghost use Rattle.std.specs.Prelude.{◌≡◌, ◌+◌, ◌<◌, ◌≤◌, ◌^◌, IfOk};
-ghost use Rattle.spec_numeric.specs.Memory.{load};
+ghost use Rattle.spec_modules.specs.Memory.{load};
 
 use memory::Linear;
 use std::alloc::Allocator;

@@ -1,7 +1,7 @@
 //! Numbers in LEB128.
 
 ghost use Rattle.std.specs.Prelude.{◌≡◌, ℕ, ◌<◌, ◌≤◌, List, ◌++◌, drop, slice_range, length, IfSome, IfNone, ℤ};
-ghost use Rattle.spec_binary.specs.Leb.{s32};
+ghost use Rattle.spec_modules.specs.Leb.{s32};
 
 /// As [`leb::read_s32`].
 pub fn read_s32(bytes: &[u8], at: usize) -> Option<(i32, usize)>

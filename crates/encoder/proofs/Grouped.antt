@@ -2,7 +2,7 @@
 use Rattle.std.proofs.Common.{◌≡◌, ℕ, List, [], ◌∷◌, ◌++◌, length, map, Option, refl, sym, ap, ap₂, ◌∙◌, append_assoc, arith}
 use Rattle.wtypes.specs.declared.FuncType.{FuncType}
 use Rattle.wtypes.specs.declared.Limits.{Limits}
-use Rattle.spec_binary.specs.Shortest.{shortest, u32_bytes, vector_bytes, sized_bytes, func_type_bytes, import_bytes, table_type_bytes, limits_bytes, global_bytes, export_bytes, start_bytes, element_bytes, code_bytes, data_segment_bytes, list_section_bytes}
+use Rattle.spec_modules.specs.Shortest.{shortest, u32_bytes, vector_bytes, sized_bytes, func_type_bytes, import_bytes, table_type_bytes, limits_bytes, global_bytes, export_bytes, start_bytes, element_bytes, code_bytes, data_segment_bytes, list_section_bytes}
 use Rattle.module_tree.specs.declared.module.Import.{Import}
 use Rattle.module_tree.specs.declared.module.Export.{Export}
 use Rattle.module_tree.specs.declared.module.Func.{Func}

@@ -3,9 +3,9 @@ use Rattle.std.proofs.Common.{◌≡◌, true, List, [], ◌∷◌, map, string_
 use Rattle.std.specs.List.{list_all}
 use Rattle.std.specs.Str.{is_utf8}
 use Rattle.std.proofs.lemmas.Str.{IsUtf8-string_bytes, is_utf8-from_IsUtf8}
-use Rattle.spec_syntax.specs.Limits.{both}
-use Rattle.spec_binary.specs.Shortest.{shortest}
-use Rattle.spec_binary.specs.Spells.{Spells}
+use Rattle.spec_modules.specs.Limits.{both}
+use Rattle.spec_modules.specs.Shortest.{shortest}
+use Rattle.spec_modules.specs.Spells.{Spells}
 use Rattle.laws_modules.specs.Modules.{import_is_named, export_is_named}
 use Rattle.laws_modules.specs.Whole.{names_are_utf8, shortest_spells}
 use Rattle.module_tree.specs.declared.module.Import.{Import}

@@ -3,9 +3,9 @@ use Rattle.std.proofs.Common.{◌≡◌, ℕ, ◌+◌, ◌<◌, true, List, [], 
 use Rattle.std.proofs.lemmas.List.{take_more}
 use Rattle.wtypes.specs.declared.ValType.{ValType}
 use Rattle.wtypes.specs.declared.ValType.TheVariants as valtype
-use Rattle.spec_syntax.specs.Syntax as syntax
-use Rattle.spec_binary.specs.Shortest.{run_bytes, byte_bytes, instr_bytes, instrs_bytes, maximal_runs, before_runs, same_type, closing_bytes}
-use Rattle.spec_binary.specs.Opcodes.{result_code}
+use Rattle.spec_modules.specs.Syntax as syntax
+use Rattle.spec_modules.specs.Shortest.{run_bytes, byte_bytes, instr_bytes, instrs_bytes, maximal_runs, before_runs, same_type, closing_bytes}
+use Rattle.spec_modules.specs.Opcodes.{result_code}
 use Rattle.module_tree.specs.declared.instr.Instr.{Instr, If, the_lemmas}
 use Rattle.module_tree.specs.View.{instr_view, instrs_view}
 

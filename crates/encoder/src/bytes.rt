@@ -1,6 +1,6 @@
 // Bytes, numbers and vectors at the end of a buffer. Where memory is refused, what was there before still stands in front.
 ghost use Rattle.std.specs.Prelude.{◌≡◌, ◌≤◌, ◌++◌, [], ◌∷◌, List, ℕ, length, take, drop, OnOk, OnErr};
-ghost use Rattle.spec_binary.specs.Shortest.{u32_bytes, s32_bytes, s64_bytes, run_bytes, vector_bytes, sized_bytes, byte_bytes};
+ghost use Rattle.spec_modules.specs.Shortest.{u32_bytes, s32_bytes, s64_bytes, run_bytes, vector_bytes, sized_bytes, byte_bytes};
 
 use leb::{write_s32, write_s64, write_u32};
 use std::alloc::{AllocError, Allocator};

@@ -1,6 +1,6 @@
 // The spelling of instructions (Core Specification, 5.4 Instructions).
 ghost use Rattle.std.specs.Prelude.{◌≡◌, ◌++◌, length, take, OnOk};
-ghost use Rattle.spec_binary.specs.Shortest.{immediate_bytes, instr_bytes, instrs_bytes, expression_bytes, closing_bytes};
+ghost use Rattle.spec_modules.specs.Shortest.{immediate_bytes, instr_bytes, instrs_bytes, expression_bytes, closing_bytes};
 ghost use Rattle.module_tree.specs.View.{instr_view, instrs_view};
 
 use crate::bytes::{put_byte, put_s32, put_s64, put_u32, put_vector};

@@ -1,6 +1,6 @@
 // The items of sections (Core Specification, 5.3 Types, 5.5 Modules).
 ghost use Rattle.std.specs.Prelude.{◌≡◌, ◌++◌, length, take, OnOk};
-ghost use Rattle.spec_binary.specs.Shortest.{u32_bytes, value_type_bytes, func_type_bytes, limits_bytes, table_type_bytes, global_type_bytes, import_desc_bytes, import_bytes, global_bytes, export_desc_bytes, export_bytes, element_bytes, code_bytes, data_segment_bytes};
+ghost use Rattle.spec_modules.specs.Shortest.{u32_bytes, value_type_bytes, func_type_bytes, limits_bytes, table_type_bytes, global_type_bytes, import_desc_bytes, import_bytes, global_bytes, export_desc_bytes, export_bytes, element_bytes, code_bytes, data_segment_bytes};
 ghost use Rattle.module_tree.specs.ModuleView.{func_type_view, limits_view, global_type_view, import_desc_view, import_view, func_view, global_view, export_desc_view, export_view, element_view, data_view};
 
 use crate::bytes::{Plainly, Spelled, put_byte, put_size, put_text, put_u32, put_vector};

@@ -2,8 +2,8 @@
 #![tactic(auto)]
 
 ghost use Rattle.std.specs.Prelude.{◌≡◌, ◌++◌, length, take, OnOk, OnErr};
-ghost use Rattle.spec_binary.specs.Shortest.{shortest};
-ghost use Rattle.spec_binary.specs.Spells.{Spells};
+ghost use Rattle.spec_modules.specs.Shortest.{shortest};
+ghost use Rattle.spec_modules.specs.Spells.{Spells};
 ghost use Rattle.module_tree.specs.ModuleView.{module_of};
 ghost use Rattle.module_tree.specs.Modules.{module_view};
 

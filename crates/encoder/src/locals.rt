@@ -1,6 +1,6 @@
 // Locals as maximal runs of one type (Core Specification, 5.5.13 Code Section).
 ghost use Rattle.std.specs.Prelude.{◌≡◌, ◌+◌, ◌≤◌, ◌++◌, ◌∷◌, List, length, take, drop, OnOk};
-ghost use Rattle.spec_binary.specs.Shortest.{same_type, maximal_runs, local_run_bytes, run_bytes, vector_bytes};
+ghost use Rattle.spec_modules.specs.Shortest.{same_type, maximal_runs, local_run_bytes, run_bytes, vector_bytes};
 
 use crate::bytes::{put_byte, put_count};
 use crate::opcodes::type_code;

@@ -1,6 +1,6 @@
 // The codes of instructions and types (Core Specification, 5.3.1 Value Types, 5.4 Instructions).
 ghost use Rattle.std.specs.Prelude.{◌≡◌};
-ghost use Rattle.spec_binary.specs.Opcodes as table;
+ghost use Rattle.spec_modules.specs.Opcodes as table;
 
 use wtypes::{BinOp, CvtOp, LoadOp, PlainInstr, RelOp, StoreOp, TestOp, UnOp, ValType, Value};
 

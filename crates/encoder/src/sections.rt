@@ -1,6 +1,6 @@
 // Sections (Core Specification, 5.5.2 Sections). One is written where there is something in it.
 ghost use Rattle.std.specs.Prelude.{◌≡◌, ◌++◌, length, take, OnOk};
-ghost use Rattle.spec_binary.specs.Shortest.{list_section_bytes, start_bytes};
+ghost use Rattle.spec_modules.specs.Shortest.{list_section_bytes, start_bytes};
 ghost use Rattle.encoder.specs.Groups.{head_bytes, middle_bytes, tail_bytes};
 
 use crate::bytes::{Plainly, Spelled, put_byte, put_size, put_u32, put_vector};

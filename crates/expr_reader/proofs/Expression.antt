@@ -3,9 +3,9 @@ use Rattle.std.proofs.Common.{◌≡◌, ℕ, ◌+◌, ◌-◌, ◌≤◌, List,
 use Rattle.std.proofs.lemmas.List.{take-take}
 use Rattle.std.proofs.Math.Seq.{take-append_seam}
 use Rattle.std.proofs.lemmas.Option.{none-some}
-use Rattle.spec_syntax.specs.Syntax.{Instrs}
-use Rattle.spec_binary.specs.Grammar.{expression}
-use Rattle.spec_binary.specs.Spells.{ExpressionFits}
+use Rattle.spec_modules.specs.Syntax.{Instrs}
+use Rattle.spec_modules.specs.Grammar.{expression}
+use Rattle.spec_modules.specs.Spells.{ExpressionFits}
 use Rattle.laws_modules.specs.ReadingExpressions.{expression_at}
 use Rattle.laws_modules.specs.ExpressionLaws.{FitsIn, expression_reads}
 use Rattle.expr_reader.specs.declared.unread.DecodeFault.{DecodeFault}

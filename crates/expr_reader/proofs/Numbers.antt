@@ -1,9 +1,9 @@
 -- A number at the front of bytes.
 use Rattle.std.proofs.Common.{◌≡◌, ℕ, zero, suc, ◌-◌, ◌≤◌, List, [], ◌∷◌, ◌++◌, length, take, drop, slice_range, Some, None, refl, sym, ap, ◌∙◌, arith}
 use Rattle.std.proofs.lemmas.List.{take-append-drop, length-drop}
-use Rattle.spec_binary.specs.Language.{Language}
-use Rattle.spec_binary.specs.Reading.{Read}
-use Rattle.spec_binary.specs.NumberLaws.{Found}
+use Rattle.spec_modules.specs.Language.{Language}
+use Rattle.spec_modules.specs.Reading.{Read}
+use Rattle.spec_modules.specs.NumberLaws.{Found}
 
 take_whole : (xs : List ℕ) (n : ℕ) → length xs ≤ n → take n xs ≡ xs
 take_whole [] zero h = refl

@@ -1,7 +1,7 @@
 -- One more item.
 use Rattle.std.proofs.Common.{◌≡◌, ℕ, suc, List, [], ◌∷◌, ◌++◌, Some, None, refl, sym, ap, ◌∙◌, append_assoc}
 use Rattle.std.specs.Prelude.{option_map}
-use Rattle.spec_binary.specs.Reading.{Read}
+use Rattle.spec_modules.specs.Reading.{Read}
 use Rattle.laws_modules.specs.ReadingExpressions.{items_at}
 
 -- items with these in front

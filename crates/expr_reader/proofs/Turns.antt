@@ -1,8 +1,8 @@
 -- One turn of reading a body.
 use Rattle.std.proofs.Common.{◌⊎◌, ⊎_elim, inl, inr, ◌≡◌, ℕ, zero, suc, ◌-◌, ◌<◌, ◌≤◌, true, false, List, [], ◌∷◌, ◌++◌, length, Option, Some, None, refl, sym, ap, ◌∙◌, arith}
 use Rattle.std.specs.Prelude.{option_map, ◌==◌, ◌||◌}
-use Rattle.spec_syntax.specs.Syntax as syntax
-use Rattle.spec_binary.specs.Reading.{Read, ◌>>=◌}
+use Rattle.spec_modules.specs.Syntax as syntax
+use Rattle.spec_modules.specs.Reading.{Read, ◌>>=◌}
 use Rattle.laws_modules.specs.ReadingExpressions.{Body, seq_at, body_at, one_at, one_with, result_at}
 use Rattle.expr_reader.specs.declared.unread.DecodeFault.{DecodeFault}
 use Rattle.expr_reader.specs.declared.unread.DecodeFault.TheVariants.{Malformed, Unsupported, TooLarge, NoMemory}

@@ -1,8 +1,8 @@
 -- What a reader's result says of reading.
 use Rattle.std.specs.Prelude.{◌≡◌, ◌++◌, ◌-◌, ℕ, Bool, true, false, List, Option, Some, None, Result, Ok, Err, ⊤}
-use Rattle.spec_syntax.specs.Syntax.{Instrs}
-use Rattle.spec_binary.specs.Grammar.{expression}
-use Rattle.spec_binary.specs.Spells.{ExpressionFits}
+use Rattle.spec_modules.specs.Syntax.{Instrs}
+use Rattle.spec_modules.specs.Grammar.{expression}
+use Rattle.spec_modules.specs.Spells.{ExpressionFits}
 use Rattle.expr_reader.specs.declared.LoadRefusal.{LoadRefusal}
 use Rattle.expr_reader.specs.declared.LoadRefusal.TheVariants.{Malformed, Unsupported, TooLarge, NoMemory}
 use Rattle.expr_reader.specs.declared.unread.DecodeFault.{DecodeFault}

@@ -1,8 +1,8 @@
 // Bodies of instructions.
 ghost use Rattle.std.specs.Prelude.{◌≡◌, ◌+◌, ◌<◌, ◌≤◌, ◌^◌, length, IfOk};
 ghost use Rattle.expr_reader.specs.Outcome.{Gives};
-ghost use Rattle.expr_reader.specs.Numbering.{Numbered};
-ghost use Rattle.spec_binary.specs.Reading.{unsigned_at};
+ghost use Rattle.module_tree.specs.Numbering.{Numbered};
+ghost use Rattle.spec_modules.specs.Reading.{unsigned_at};
 ghost use Rattle.laws_modules.specs.ReadingExpressions.{items_at, table_at, one_at, body_at};
 ghost use Rattle.module_tree.specs.View.{instr_view, instrs_view, instr_ordinals, ordinals};
 

@@ -1,11 +1,11 @@
 // One expression.
 ghost use Rattle.std.specs.Prelude.{◌≡◌, ◌+◌, ◌<◌, ◌≤◌, ◌^◌, true, length, slice_range, IfOk, IfErr};
-ghost use Rattle.spec_binary.specs.Grammar.{expression};
-ghost use Rattle.spec_binary.specs.Spells.{ExpressionFits};
+ghost use Rattle.spec_modules.specs.Grammar.{expression};
+ghost use Rattle.spec_modules.specs.Spells.{ExpressionFits};
 ghost use Rattle.laws_modules.specs.ReadingExpressions.{expression_at};
 ghost use Rattle.module_tree.specs.View.{instrs_view, ordinals};
-ghost use Rattle.spec_syntax.specs.Limits.{counts_from};
-ghost use Rattle.expr_reader.specs.Numbering.{Numbered};
+ghost use Rattle.spec_modules.specs.Limits.{counts_from};
+ghost use Rattle.module_tree.specs.Numbering.{Numbered};
 ghost use Rattle.expr_reader.specs.Outcome.{Gives, Unless, NoExpression};
 
 use crate::LoadRefusal;

@@ -1,7 +1,7 @@
 // Numbers, bytes and block types at the front of bytes.
 ghost use Rattle.std.specs.Prelude.{◌≡◌, ◌+◌, ◌<◌, ◌≤◌, length, IfOk};
 ghost use Rattle.expr_reader.specs.Outcome.{Gives};
-ghost use Rattle.spec_binary.specs.Reading.{unsigned_at, signed_at};
+ghost use Rattle.spec_modules.specs.Reading.{unsigned_at, signed_at};
 ghost use Rattle.laws_modules.specs.ReadingExpressions.{byte_at, memarg_at, result_at};
 
 use crate::unread::DecodeFault;

@@ -1,10 +1,10 @@
 -- The numbers of functions have 32 bits, since a module's shortest spelling has a byte for each import.
 use Rattle.std.proofs.Common.{◌≡◌, ◌+◌, ◌<◌, ◌≤◌, ◌^◌, true, List, [], ◌∷◌, ◌++◌, length, arith, length-append, nat_le}
 use Rattle.std.proofs.lemmas.Bool.{leb-true}
-use Rattle.spec_syntax.specs.Syntax.{ImportDesc, ImportFunc, ImportTable, ImportMemory, ImportGlobal, Import, Module}
-use Rattle.spec_syntax.specs.Limits.{module_fits, module_fits-means, first}
-use Rattle.spec_syntax.specs.Profile.{byte_limit, function_limit}
-use Rattle.spec_binary.specs.Shortest.{shortest, import_desc_bytes, import_bytes, name_bytes, run_bytes, vector_bytes, u32_bytes, list_section_bytes}
+use Rattle.spec_modules.specs.Syntax.{ImportDesc, ImportFunc, ImportTable, ImportMemory, ImportGlobal, Import, Module}
+use Rattle.spec_modules.specs.Limits.{module_fits, module_fits-means, first}
+use Rattle.spec_modules.specs.Profile.{byte_limit, function_limit}
+use Rattle.spec_modules.specs.Shortest.{shortest, import_desc_bytes, import_bytes, name_bytes, run_bytes, vector_bytes, u32_bytes, list_section_bytes}
 use Rattle.module_tree.specs.Readers.{func_count, imported_funcs}
 
 desc_size : (d : ImportDesc) → func_count d ≤ length (import_desc_bytes d)

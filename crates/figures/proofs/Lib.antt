@@ -2,7 +2,6 @@ mod Counts
 mod Hot
 mod KindSteps
 mod Numbers
-mod Places
 mod Profiles
 mod Steps
 mod Tops

@@ -5,9 +5,10 @@ use Rattle.std.proofs.lemmas.List.{take_more}
 use Rattle.std.proofs.lemmas.List.Elements.{Contains-append_left, Contains-get_or, Contains-push, Contains-push_cases}
 use Rattle.spec_ledger.specs.declared.Entry.{Entry}
 use Rattle.spec_ledger.proofs.Maps.{is_key, key_itself}
-use Rattle.figures.specs.declared.lock_turn.LockTurn.{LockTurn}
-use Rattle.figures.specs.Turns.{after, turn_cmp, turn_of, AreRaised, IsAt, IsBefore, IsBest, IsPast, IsRaise, IsRaisedAt}
-use Rattle.figures.proofs.Places.{turn_cmp_total, turn_cmp-IsAntisymmetric}
+use Rattle.lock_profile.specs.declared.lock_turn.LockTurn.{LockTurn}
+use Rattle.lock_profile.specs.LockTurns.{after, turn_cmp, turn_of}
+use Rattle.figures.specs.Turns.{AreRaised, IsAt, IsBefore, IsBest, IsPast, IsRaise, IsRaisedAt}
+use Rattle.lock_profile.proofs.Places.{turn_cmp_total, turn_cmp-IsAntisymmetric}
 use Rattle.figures.proofs.Profiles.{some_is}
 
 -- ---- the sum before a turn

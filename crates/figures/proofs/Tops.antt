@@ -7,11 +7,12 @@ use Rattle.std.proofs.lemmas.Option.{slice_get_within, slice_get_read, slice_get
 use Rattle.spec_ledger.specs.declared.Mode.{Mode}
 use Rattle.spec_ledger.specs.declared.Entry.{Entry}
 use Rattle.lock_profile.specs.Turns.{IsProfile}
-use Rattle.spec_block.specs.Worlds.{Position}
+use Rattle.spec_block.specs.Worlds.{Position, profiles_in}
 use Rattle.spec_block.specs.Schedule.{hold_in, Holds, IsEdge, IsPath, here, along}
-use Rattle.figures.specs.declared.lock_turn.LockTurn.{LockTurn}
-use Rattle.figures.specs.Turns.{after, turn_of, AreRaised, IsAt, IsAfter, IsBest, IsPast}
-use Rattle.figures.specs.Chains.{lists_of, path_weight, AreForward, IsHeaviest}
+use Rattle.lock_profile.specs.declared.lock_turn.LockTurn.{LockTurn}
+use Rattle.lock_profile.specs.LockTurns.{after, turn_of}
+use Rattle.figures.specs.Turns.{AreRaised, IsAt, IsAfter, IsBest, IsPast}
+use Rattle.figures.specs.Chains.{path_weight, AreForward, IsHeaviest}
 use Rattle.figures.proofs.Profiles.{some_is, at_is_holder, IsHolder}
 
 -- the greatest sum of the first positions at each turn
@@ -189,9 +190,9 @@ module _ (profiles : List (List Entry)) (weights : List ℕ) (n : ℕ) (es : Lis
 pub all_forward : (profiles : List (List Entry)) (weights sums : List ℕ) (n : ℕ) → length profiles ≤ n → AreSums profiles weights sums n → AreForward profiles
 all_forward profiles weights sums n all are i j e = let lt = slice_get_within profiles i e.holds_first.profile e.holds_first.there in are.clear i j (omega (arith, lt, all)) e
 
-pub position_there : (positions : List Position) (n : ℕ) (item : Position) (es : List Entry) → n < length positions → item ≡ get_or positions n item → es ≡ item.profile → slice_get (lists_of positions) n ≡ Some es
+pub position_there : (positions : List Position) (n : ℕ) (item : Position) (es : List Entry) → n < length positions → item ≡ get_or positions n item → es ≡ item.profile → slice_get (profiles_in positions) n ≡ Some es
 position_there positions n item es below is same =
     slice_get-map (λ (p : Position). p.profile) positions n ∙ (ap (option_map (λ (p : Position). p.profile)) (slice_get_read positions (length positions) n item refl below is) ∙ ap Some (sym same))
 
-pub lists_long : (positions : List Position) → length (lists_of positions) ≡ length positions
+pub lists_long : (positions : List Position) → length (profiles_in positions) ≡ length positions
 lists_long positions = length-map positions (λ (p : Position). p.profile)

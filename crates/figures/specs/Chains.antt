@@ -4,9 +4,6 @@ use Rattle.spec_ledger.specs.declared.Entry.{Entry}
 use Rattle.spec_block.specs.Worlds.{Position}
 use Rattle.spec_block.specs.Schedule.{IsEdge, IsPath, here, along}
 
-abbrev pub lists_of : List Position → List (List Entry)
-lists_of positions = map (λ (p : Position). p.profile) positions
-
 -- the fuel that each position used
 abbrev pub fuels_of : List Position → List ℕ
 fuels_of positions = map (λ (p : Position). p.receipt.used) positions

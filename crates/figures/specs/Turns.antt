@@ -1,21 +1,9 @@
 -- Turns of locks, and the greatest sums so far at each.
 use Rattle.std.specs.Prelude.{◌≡◌, ◌⊎◌, ℕ, ◌+◌, ◌≤◌, Option, Some, List}
-use Rattle.std.specs.Ordering.{nat_cmp, ordering_then}
-use Rattle.std.specs.declared.cmp.Ordering.{Ordering}
 use Rattle.std.specs.List.{Contains}
 use Rattle.spec_ledger.specs.declared.Entry.{Entry}
-use Rattle.spec_ledger.specs.Cells.{lock_cmp}
-use Rattle.figures.specs.declared.lock_turn.LockTurn.{LockTurn}
-
--- by lock, then by turn
-abbrev pub turn_cmp : LockTurn → LockTurn → Ordering
-turn_cmp a b = ordering_then (lock_cmp a.lock b.lock) (nat_cmp a.turn b.turn)
-
-abbrev pub turn_of : Entry → LockTurn
-turn_of e = record { lock = e.lock; turn = e.turn }
-
-abbrev pub after : LockTurn → LockTurn
-after q = record { lock = q.lock; turn = q.turn + 1 }
+use Rattle.lock_profile.specs.declared.lock_turn.LockTurn.{LockTurn}
+use Rattle.lock_profile.specs.LockTurns.{after, turn_of}
 
 -- some entry has this lock at this turn
 abbrev pub IsAt : List Entry → LockTurn → Type 0

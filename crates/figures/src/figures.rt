@@ -1,7 +1,8 @@
 //! The figures of a block.
 
 ghost use Rattle.std.specs.Prelude.{◌≡◌, ◌<◌, ◌≤◌, ◌^◌, ◌↔◌, ◌+◌, ℕ, IfOk, IfSome, IsSome, length, slice_index, sum, replicate};
-ghost use Rattle.figures.specs.Chains.{fuels_of, lists_of, AreForward, AreHeaviest, AreHeavy, IsGreatest};
+ghost use Rattle.spec_block.specs.Worlds.{profiles_in};
+ghost use Rattle.figures.specs.Chains.{fuels_of, AreForward, AreHeaviest, AreHeavy, IsGreatest};
 ghost use Rattle.figures.specs.Figures.{AreChains, AreFigures};
 
 use crate::hottest::{SharedLock, hottest_of};
@@ -94,9 +95,9 @@ fn ones_of(alloc: Global, count: usize) -> Result<Vec<u64>, NoMemory>
 /// How many positions the longest path to each position has.
 fn lengths_of(alloc: Global, positions: &[Position]) -> Result<Option<Vec<u128>>, NoMemory>
     requires { length positions.now < 2 ^ 16 }
-    ensures forward { IfOk result (λ counts. IsSome counts ↔ AreForward (lists_of positions.now)) }
+    ensures forward { IfOk result (λ counts. IsSome counts ↔ AreForward (profiles_in positions.now)) }
     ensures each { IfOk result (λ counts. IfSome counts (λ list. length list.items ≡ length positions.now)) }
-    ensures counts { IfOk result (λ counts. IfSome counts (AreHeaviest (lists_of positions.now) (replicate (length positions.now) 1))) }
+    ensures counts { IfOk result (λ counts. IfSome counts (AreHeaviest (profiles_in positions.now) (replicate (length positions.now) 1))) }
 {
     let ones = ones_of(alloc, positions.len())?;
     sums_of(alloc, positions, &ones)
@@ -111,12 +112,12 @@ fn chains_from(
     sums: &[u128],
 ) -> Result<Chains, NoMemory>
     requires few { length positions.now < 2 ^ 16 }
-    requires forward { AreForward (lists_of positions.now) }
+    requires forward { AreForward (profiles_in positions.now) }
     requires each_count { length counts.now ≡ length positions.now }
-    requires counts { AreHeavy (lists_of positions.now) (replicate (length positions.now) 1) counts.now }
+    requires counts { AreHeavy (profiles_in positions.now) (replicate (length positions.now) 1) counts.now }
     requires each_sum { length sums.now ≡ length positions.now }
-    requires sums { AreHeavy (lists_of positions.now) (fuels_of positions.now) sums.now }
-    ensures { IfOk result (AreChains (lists_of positions.now) (fuels_of positions.now)) }
+    requires sums { AreHeavy (profiles_in positions.now) (fuels_of positions.now) sums.now }
+    ensures { IfOk result (AreChains (profiles_in positions.now) (fuels_of positions.now)) }
 {
     let _count = positions.len();
     let waves = waves_of(alloc, counts)?;
@@ -135,8 +136,8 @@ fn chains_of(
 ) -> Result<Option<Chains>, NoMemory>
     requires few { length positions.now < 2 ^ 16 }
     requires fuels { fuels.now ≡ fuels_of positions.now }
-    ensures forward { IfOk result (λ chains. IsSome chains ↔ AreForward (lists_of positions.now)) }
-    ensures chains { IfOk result (λ chains. IfSome chains (AreChains (lists_of positions.now) (fuels_of positions.now))) }
+    ensures forward { IfOk result (λ chains. IsSome chains ↔ AreForward (profiles_in positions.now)) }
+    ensures chains { IfOk result (λ chains. IfSome chains (AreChains (profiles_in positions.now) (fuels_of positions.now))) }
 {
     let Some(counts) = lengths_of(alloc, positions)? else {
         return Ok(None);

@@ -6,7 +6,7 @@ ghost use Rattle.std.specs.List.{Contains};
 ghost use Rattle.spec_ledger.specs.declared.Lock.{Lock as TheLock};
 ghost use Rattle.spec_ledger.specs.Cells.{lock_cmp};
 ghost use Rattle.lock_profile.specs.Turns.{IsProfile};
-ghost use Rattle.figures.specs.Chains.{lists_of};
+ghost use Rattle.spec_block.specs.Worlds.{profiles_in};
 ghost use Rattle.figures.specs.Hottest.{holders, AreHottest, IsHotter, IsShared};
 ghost use Rattle.figures.specs.Counting.{held_by, number_at, AreFirst, IsBehind, IsBetter, IsNext, IsSooner, IsTold};
 ghost use Rattle.figures.specs.declared.hottest.SharedLock.{SharedLock as TheShared};
@@ -56,7 +56,7 @@ fn count_entries(counts: &mut BTreeMap<Lock, u32>, entries: &[Entry]) -> Result<
 /// How many positions hold each lock.
 fn counts_of(alloc: Global, positions: &[Position]) -> Result<BTreeMap<Lock, u32>, NoMemory>
     requires { length positions.now < 2 ^ 16 }
-    ensures { IfOk result (λ counts. (lock : TheLock) → number_at (get lock_cmp counts) lock ≡ holders (lists_of positions.now) lock) }
+    ensures { IfOk result (λ counts. (lock : TheLock) → number_at (get lock_cmp counts) lock ≡ holders (profiles_in positions.now) lock) }
 {
     let mut counts = BTreeMap::new(alloc);
     for position in positions {
@@ -93,8 +93,8 @@ fn shared_of(
     positions: &[Position],
     counts: &BTreeMap<Lock, u32>,
 ) -> Result<Vec<SharedLock>, NoMemory>
-    requires { (lock : TheLock) → number_at (get lock_cmp counts.now) lock ≡ holders (lists_of positions.now) lock }
-    ensures { IfOk result (λ shared. (s : TheShared) → Contains shared.items s ↔ IsShared (lists_of positions.now) s) }
+    requires { (lock : TheLock) → number_at (get lock_cmp counts.now) lock ≡ holders (profiles_in positions.now) lock }
+    ensures { IfOk result (λ shared. (s : TheShared) → Contains shared.items s ↔ IsShared (profiles_in positions.now) s) }
 {
     let mut shared = Vec::new(alloc);
     for position in positions {
@@ -177,7 +177,7 @@ fn first_ten(alloc: Global, shared: &[SharedLock]) -> Result<Vec<SharedLock>, No
 /// The ten locks that the most positions hold, the hottest first.
 pub(crate) fn hottest_of(alloc: Global, positions: &[Position]) -> Result<Vec<SharedLock>, NoMemory>
     requires { length positions.now < 2 ^ 16 }
-    ensures { IfOk result (λ list. AreHottest (lists_of positions.now) list.items) }
+    ensures { IfOk result (λ list. AreHottest (profiles_in positions.now) list.items) }
 {
     let counts = counts_of(alloc, positions)?;
     let shared = shared_of(alloc, positions, &counts)?;

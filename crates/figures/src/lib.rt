@@ -5,7 +5,6 @@
 
 mod figures;
 mod hottest;
-mod lock_turn;
 mod module_figures;
 mod names;
 mod outcomes;
@@ -17,4 +16,4 @@ pub use hottest::{MOST_HOTTEST, SharedLock};
 pub use module_figures::{first_func, shortest_size};
 pub use names::type_name;
 pub use outcomes::{OutcomeCount, OutcomeKind};
-pub use words::{hundredth_of, lock_text_of, number_of_version, word_of_kind, word_of_mode};
+pub use words::{hundredth_of, lock_text_of, word_of_kind, word_of_mode};

@@ -1,7 +1,7 @@
 //! What is counted in a module.
 
 ghost use Rattle.std.specs.Prelude.{◌≡◌, ◌+◌, ◌<◌, ◌^◌, IfOk, length, vec_len};
-ghost use Rattle.spec_binary.specs.Shortest.{shortest};
+ghost use Rattle.spec_modules.specs.Shortest.{shortest};
 ghost use Rattle.module_tree.specs.Modules.{module_view};
 ghost use Rattle.module_tree.specs.Readers.{imported_funcs};
 

@@ -3,11 +3,13 @@
 ghost use Rattle.std.specs.Prelude.{◌≡◌, ◌<◌, ◌≤◌, ◌^◌, ◌↔◌, ◌+◌, ◌∷◌, [], ℕ, Some, None, IfOk, OnOk, IfSome, IsSome, IsTrue, length, slice_index, MatchOption};
 ghost use Rattle.std.specs.BTreeMap.{get};
 ghost use Rattle.std.specs.Option.{is_some};
-ghost use Rattle.figures.specs.declared.lock_turn.LockTurn.{LockTurn};
-ghost use Rattle.figures.specs.Turns.{after, turn_cmp, turn_of, AreRaised, IsBefore, IsBest, IsPast, IsRaisedAt};
-ghost use Rattle.figures.specs.Chains.{lists_of, AreForward, AreHeaviest};
+ghost use Rattle.lock_profile.specs.declared.lock_turn.LockTurn.{LockTurn};
+ghost use Rattle.lock_profile.specs.LockTurns.{after, turn_cmp, turn_of};
+ghost use Rattle.figures.specs.Turns.{AreRaised, IsBefore, IsBest, IsPast, IsRaisedAt};
+ghost use Rattle.spec_block.specs.Worlds.{profiles_in};
+ghost use Rattle.figures.specs.Chains.{AreForward, AreHeaviest};
 
-use crate::lock_turn::{LockTurn, own_turn};
+use lock_profile::{LockTurn, own_turn};
 use records::Position;
 use spec_ledger::Entry;
 use std::alloc::Global;
@@ -119,9 +121,9 @@ pub(crate) fn sums_of(
 ) -> Result<Option<Vec<u128>>, NoMemory>
     requires few { length positions.now < 2 ^ 16 }
     requires each { length weights.now ≡ length positions.now }
-    ensures forward { IfOk result (λ sums. IsSome sums ↔ AreForward (lists_of positions.now)) }
+    ensures forward { IfOk result (λ sums. IsSome sums ↔ AreForward (profiles_in positions.now)) }
     ensures each { IfOk result (λ sums. IfSome sums (λ list. length list.items ≡ length positions.now)) }
-    ensures sums { IfOk result (λ sums. IfSome sums (AreHeaviest (lists_of positions.now) weights.now)) }
+    ensures sums { IfOk result (λ sums. IfSome sums (AreHeaviest (profiles_in positions.now) weights.now)) }
 {
     let mut sums = BTreeMap::new(alloc);
     let mut list = Vec::new(alloc);

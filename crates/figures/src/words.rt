@@ -1,11 +1,10 @@
 //! Words and numbers of what is told of a block.
 
 ghost use Rattle.std.specs.Prelude.{◌≡◌, IfOk, string_bytes};
-ghost use Rattle.spec_block.specs.Bytes.{version_code};
 ghost use Rattle.figures.specs.Words.{hundredth, kind_word, lock_text, mode_word};
 
-use spec_ledger::{Kind, Lock, Mode, Version};
-use std::alloc::{AllocError, Global};
+use spec_ledger::{Kind, Lock, Mode};
+use std::alloc::{AllocError, Allocator, Global};
 
 /// The word of a kind of locks.
 pub fn word_of_kind(kind: Kind) -> &'static str
@@ -22,7 +21,7 @@ pub fn word_of_kind(kind: Kind) -> &'static str
 /// # Errors
 ///
 /// The allocator refused memory.
-pub fn lock_text_of(alloc: Global, lock: Lock) -> Result<String, AllocError>
+pub fn lock_text_of<A: Allocator>(alloc: A, lock: Lock) -> Result<String<A>, AllocError>
     ensures { IfOk result (λ text. string_bytes text ≡ lock_text lock) }
 {
     let kind = word_of_kind(lock.kind);
@@ -40,16 +39,6 @@ pub fn word_of_mode(mode: Mode) -> &'static str
         Mode::Read => "read",
         Mode::Add => "add",
         Mode::Excl => "excl",
-    }
-}
-
-/// The number of a version.
-pub fn number_of_version(version: Version) -> u32
-    ensures { result ≡ version_code version }
-{
-    match version {
-        Version::One => 1,
-        Version::Two => 2,
     }
 }
 

@@ -12,11 +12,11 @@ use Rattle.lock_profile.proofs.Held.TheSendSync as held
 use Rattle.spec_execution.proofs.footprints.Access.TheSendSync as access
 use Rattle.spec_ledger.proofs.Version.TheSendSync as version
 use Rattle.serial.proofs.Crossing.{crosses, vec_send, contract_sync, contracts_send, cells_sync}
-use Rattle.typed_queue.specs.declared.rule.ItemFact as fact
-use Rattle.typed_queue.specs.contracts.handover.TypedQueue as line_row
-use Rattle.typed_queue.specs.contracts.pass.QueuePass as pass_row
-use Rattle.typed_queue.proofs.handover.TypedQueue.TheSendSync as line
-use Rattle.typed_queue.proofs.pass.QueuePass.TheSendSync as pass
+use Rattle.lanes.specs.declared.queue_rule.ItemFact as fact
+use Rattle.lanes.specs.contracts.handover.TypedQueue as line_row
+use Rattle.lanes.specs.contracts.pass.QueuePass as pass_row
+use Rattle.lanes.proofs.handover.TypedQueue.TheSendSync as line
+use Rattle.lanes.proofs.pass.QueuePass.TheSendSync as pass
 use Rattle.in_order.specs.contracts.InOrder as job_row
 use Rattle.in_order.specs.contracts.Task as task_row
 use Rattle.in_order.specs.contracts.footprints.SpeculativeRuns as share_row

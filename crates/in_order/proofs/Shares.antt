@@ -5,7 +5,7 @@ use Rattle.std.proofs.lemmas.List.Elements.{All-append, All-cons, All-nil, All-w
 use Rattle.spec_execution.specs.Configuration.{Setting}
 use Rattle.spec_execution.specs.Run.{ContractCall}
 use Rattle.spec_execution.specs.declared.footprints.Access.{Access}
-use Rattle.speculation.specs.Calls.{IsFootprintOf}
+use Rattle.serial.specs.Calls.{IsFootprintOf}
 use Rattle.in_order.specs.declared.footprints.SpeculativeRun.{SpeculativeRun}
 use Rattle.in_order.specs.Shares.{IsSpeculativeRun, AreAllPrepared}
 

@@ -8,6 +8,7 @@ use Rattle.spec_execution.specs.Serial.{Serial}
 use Rattle.interp.specs.Callee.{setting_view}
 use Rattle.interp.specs.Played.{Played}
 use Rattle.serial.specs.Positions.{results_of}
+use Rattle.serial.specs.Runs.{IsRunOf}
 use Rattle.in_order.specs.declared.InOrder.{InOrder}
 use Rattle.in_order.specs.declared.OrderProgress.{OrderProgress}
 
@@ -29,11 +30,6 @@ pub record AreKnown (calls : List ContractCall) (order : List ℕ) : Type 0 wher
 
 abbrev pub IsKnown : {A P : Type 0} → InOrder A P → Type 0
 IsKnown job = AreKnown job.task.calls.now job.order.now
-
--- a run of the call of this number over these contracts
-pub record IsRunOf (setting : Setting) (calls : List ContractCall) (number : ℕ) (f : Played) : Type 0 where
-  pub lent : f.setting ≡ setting
-  pub call_is : slice_get calls number ≡ Some f.call
 
 -- a run of the call that is next
 abbrev pub IsNextRun : {A P : Type 0} → InOrder A P → OrderProgress A → Played → Type 0

@@ -4,7 +4,7 @@ use Rattle.spec_execution.specs.Configuration.{Setting}
 use Rattle.spec_execution.specs.Run.{ContractCall}
 use Rattle.spec_execution.specs.declared.footprints.Access.{Access}
 use Rattle.interp.specs.Callee.{setting_view}
-use Rattle.speculation.specs.Calls.{IsFootprintOf}
+use Rattle.serial.specs.Calls.{IsFootprintOf}
 use Rattle.in_order.specs.declared.footprints.SpeculativeRun.{SpeculativeRun}
 use Rattle.in_order.specs.declared.footprints.SpeculativeRuns.{SpeculativeRuns}
 use Rattle.in_order.specs.declared.Task.{Task}

@@ -10,10 +10,9 @@ ghost use Rattle.in_order.specs.Shares.{IsSpeculativeRun, AreSpeculativeRunsOf, 
 
 use crate::Task;
 use link::deployed::Deployed as Contract;
-use serial::Executed;
+use serial::{Executed, Reads, run_over, write_back};
 use spec_execution::Access;
 use spec_ledger::NoMemory;
-use speculation::{Reads, run_over, write_back};
 use std::alloc::Allocator;
 use storage::Cells;
 

@@ -1,18 +1,18 @@
 //! Where threads hand over the batches of calls that they ran ahead of their turn.
 
 ghost use Rattle.std.specs.Prelude.{◌≡◌, All, IfOk, IfSome};
-ghost use Rattle.typed_queue.specs.Passes.{IsPassOf};
+ghost use Rattle.lanes.specs.Passes.{IsPassOf};
 ghost use Rattle.in_order.specs.Handed.{IsQueueEndOf};
 ghost use Rattle.in_order.specs.Shares.{AreSpeculativeRunsOf};
 
 use crate::footprints::SpeculativeRuns;
 use crate::post::QueueEnd;
 use crate::{InOrder, Task};
+use lanes::{ItemFact, QueuePass, TypedQueue};
 use pace::Pace;
 use spec_ledger::NoMemory;
 use std::alloc::Allocator;
 use std::hint::spin_loop;
-use typed_queue::{ItemFact, QueuePass, TypedQueue};
 
 /// How often a thread tries to hand a batch over while another is in the way.
 const TRIES: u32 = 10_000;

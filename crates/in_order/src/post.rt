@@ -1,6 +1,6 @@
 //! By what a thread takes its part.
 
-ghost use Rattle.typed_queue.specs.Passes.{IsPassOf};
+ghost use Rattle.lanes.specs.Passes.{IsPassOf};
 
 use crate::line::{BatchPass, BatchQueue};
 use std::alloc::Allocator;

@@ -5,7 +5,8 @@ ghost use Rattle.std.specs.FinMap as finite;
 ghost use Rattle.spec_execution.specs.Exec.{Executes};
 ghost use Rattle.spec_execution.specs.Run.{ContractCall};
 ghost use Rattle.interp.specs.Callee.{setting_view};
-ghost use Rattle.in_order.specs.Progress.{IsKnown, IsNextRun, IsProgressOf, IsRunOf};
+ghost use Rattle.serial.specs.Runs.{IsRunOf};
+ghost use Rattle.in_order.specs.Progress.{IsKnown, IsNextRun, IsProgressOf};
 ghost use Rattle.in_order.specs.Shares.{IsPreparedOf};
 
 use crate::footprints::{SpeculativeRun, commit_if_valid};

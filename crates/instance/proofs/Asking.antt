@@ -7,8 +7,8 @@ use Rattle.wtypes.specs.declared.ValType.{ValType}
 use Rattle.wtypes.specs.declared.ValType.TheVariants.{I64}
 use Rattle.spec_ledger.specs.declared.Version.{Version}
 use Rattle.link.specs.declared.deployed.Deployed.{Deployed}
-use Rattle.spec_syntax.specs.Syntax.{ExportDesc, ExportFunc, ExportTable, ExportMemory, ExportGlobal}
-use Rattle.spec_numeric.specs.Operators.{same_type}
+use Rattle.spec_modules.specs.Syntax.{ExportDesc, ExportFunc, ExportTable, ExportMemory, ExportGlobal}
+use Rattle.spec_modules.specs.Operators.{same_type}
 use Rattle.spec_execution.specs.Configuration.{Contract, Function, Hosted, Defined, function_at}
 use Rattle.spec_execution.specs.Reduction.{same_types, same_function_type}
 use Rattle.spec_execution.specs.Run.{Opening, Opens, Refused}

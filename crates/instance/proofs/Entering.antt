@@ -4,7 +4,7 @@ use Rattle.std.specs.Prelude.{nat_lt, if◌then◌else◌, option_map}
 use Rattle.wtypes.specs.declared.ValType.{ValType}
 use Rattle.wtypes.specs.declared.ValType.TheVariants.{I32, I64}
 use Rattle.spec_ledger.specs.declared.Version.{Version}
-use Rattle.spec_syntax.specs.Syntax.{FuncType, Func, Export, ExportDesc, ExportFunc, ExportTable, ExportMemory, ExportGlobal}
+use Rattle.spec_modules.specs.Syntax.{FuncType, Func, Export, ExportDesc, ExportFunc, ExportTable, ExportMemory, ExportGlobal}
 use Rattle.spec_execution.specs.Configuration.{Setting, Deployed, Contract, Function, Hosted, Defined, function_at}
 use Rattle.spec_execution.specs.Reduction.{same_types, same_function_type}
 use Rattle.spec_execution.specs.Run.{Opens, Refused}

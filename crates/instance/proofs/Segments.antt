@@ -8,8 +8,8 @@ use Rattle.std.proofs.lemmas.Bool.{leb-true, le-leb}
 use Rattle.wtypes.specs.declared.HostCall.{HostCall}
 use Rattle.spec_ledger.specs.declared.Version.{Version}
 use Rattle.spec_ledger.specs.declared.Version.TheVariants.{One, Two}
-use Rattle.spec_syntax.specs.Syntax.{FuncType, Limits, Import, ImportDesc, ImportFunc, Module}
-use Rattle.spec_syntax.specs.Profile.{page_limit}
+use Rattle.spec_modules.specs.Syntax.{FuncType, Limits, Import, ImportDesc, ImportFunc, Module}
+use Rattle.spec_modules.specs.Profile.{page_limit}
 use Rattle.spec_typing.specs.Modules.{memories, memory_of, MemoryTyped}
 use Rattle.spec_typing.specs.Linking.{IsLinked, Resolves}
 use Rattle.spec_execution.specs.Configuration.{size_of}

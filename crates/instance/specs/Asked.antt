@@ -1,6 +1,6 @@
 -- The functions that an `ask` runs.
 use Rattle.std.specs.Prelude.{ℕ, Bool, false, if◌then◌else◌, Option, Some, None, option_map, slice_get}
-use Rattle.spec_syntax.specs.Syntax.{ExportDesc, ExportFunc}
+use Rattle.spec_modules.specs.Syntax.{ExportDesc, ExportFunc}
 use Rattle.spec_execution.specs.Configuration.{Deployed, Function, Defined, function_at}
 use Rattle.spec_execution.specs.Reduction.{same_function_type}
 use Rattle.spec_execution.specs.Levels.{ask_type}

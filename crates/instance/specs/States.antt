@@ -1,7 +1,7 @@
 -- The state of an instance.
 use Rattle.std.specs.Prelude.{◌≡◌}
 use Rattle.spec_ledger.specs.declared.Version.{Version}
-use Rattle.spec_syntax.specs.Syntax.{Module}
+use Rattle.spec_modules.specs.Syntax.{Module}
 use Rattle.spec_execution.specs.Configuration.{State, fresh}
 use Rattle.spec_execution.specs.Reduction.{most_pages}
 use Rattle.instance.specs.declared.Instance.{Instance}

@@ -6,7 +6,7 @@ use Rattle.link.specs.declared.deployed.Deployed.{Deployed}
 use Rattle.link.specs.Parts.{tree_of, hosts_of}
 use Rattle.module_tree.specs.Modules.{module_view}
 use Rattle.spec_execution.specs.Configuration as spec
-use Rattle.spec_syntax.specs.Syntax.{ExportDesc, ExportFunc}
+use Rattle.spec_modules.specs.Syntax.{ExportDesc, ExportFunc}
 use Rattle.spec_execution.specs.Configuration.{Setting, Contract, Function, Defined, function_at}
 use Rattle.spec_execution.specs.Run.{ContractCall, Opening, Opens, Refused, by_function, exported, wrong_argument}
 use Rattle.instance.specs.declared.opening.Refusal.{Refusal}

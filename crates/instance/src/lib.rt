@@ -7,7 +7,7 @@ mod opening;
 ghost use Rattle.std.specs.Prelude.{◌≡◌, ℕ, ◌*◌, ◌≤◌, None, map, IfOk};
 ghost use Rattle.module_tree.specs.ModuleView.{limits_view};
 ghost use Rattle.module_tree.specs.Modules.{module_view};
-ghost use Rattle.spec_syntax.specs.Profile.{page_size, page_limit};
+ghost use Rattle.spec_modules.specs.Profile.{page_size, page_limit};
 ghost use Rattle.spec_execution.specs.Configuration.{size_of, fresh};
 ghost use Rattle.spec_execution.specs.Reduction.{pages_of, most_pages};
 ghost use Rattle.memory.specs.Start.{stands, first_bytes};

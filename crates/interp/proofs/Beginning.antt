@@ -10,8 +10,8 @@ use Rattle.wtypes.specs.declared.HostCall.TheVariants as host
 use Rattle.spec_ledger.specs.declared.Version.{Version}
 use Rattle.spec_ledger.specs.declared.TraceStep.{TraceStep}
 use Rattle.spec_ledger.specs.declared.Outcome.TheVariants.{Returned, Trapped}
-use Rattle.spec_syntax.specs.Syntax.{FuncType, Module}
-use Rattle.spec_syntax.specs.Profile.{host_type}
+use Rattle.spec_modules.specs.Syntax.{FuncType, Module}
+use Rattle.spec_modules.specs.Profile.{host_type}
 use Rattle.spec_typing.specs.Modules.{StartTyped}
 use Rattle.spec_typing.specs.Linking.{IsLinked}
 use Rattle.spec_execution.specs.Configuration.{Setting, Deployed, Contract, Hosted, defined, function_at, function_type, State, Seq, End, Invoke, Config, Running, arguments, fresh}

@@ -4,7 +4,7 @@ use Rattle.std.specs.Prelude.{◌==◌, ◌↔◌, not, option_map}
 use Rattle.std.proofs.lemmas.Bool.{eqb-true}
 use Rattle.wtypes.specs.declared.FuncType.{FuncType}
 use Rattle.wtypes.specs.declared.HostCall.{HostCall}
-use Rattle.spec_syntax.specs.Syntax.{Instrs, nothing}
+use Rattle.spec_modules.specs.Syntax.{Instrs, nothing}
 use Rattle.module_tree.specs.declared.instr.Instr.{Instr}
 use Rattle.module_tree.specs.declared.module.Func.{Func}
 use Rattle.module_tree.specs.declared.module.Module.{Module}

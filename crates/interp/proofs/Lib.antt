@@ -22,3 +22,4 @@ pub mod Pushing
 pub mod Outermost
 pub mod Telling
 pub mod Striding
+mod Chaining

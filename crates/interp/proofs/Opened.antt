@@ -4,7 +4,7 @@ use Rattle.std.specs.Prelude.{if◌then◌else◌, nat_lt}
 use Rattle.wtypes.specs.declared.Value.{Value}
 use Rattle.wtypes.specs.declared.HostCall.{HostCall}
 use Rattle.spec_ledger.specs.declared.Version.{Version}
-use Rattle.spec_syntax.specs.Syntax.{ExportDesc, ExportFunc, ExportTable, ExportMemory, ExportGlobal, FuncType, Func}
+use Rattle.spec_modules.specs.Syntax.{ExportDesc, ExportFunc, ExportTable, ExportMemory, ExportGlobal, FuncType, Func}
 use Rattle.spec_execution.specs.Configuration.{Setting, Deployed, Contract, Function, Hosted, Defined, function_at}
 use Rattle.spec_execution.specs.Run.{ContractCall, opening, Opens, Refused, by_wrong, by_function, by_export, by_contract, wrong_argument, exported}
 use Rattle.std.proofs.lemmas.Bool.{eqb-true}

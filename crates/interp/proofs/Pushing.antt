@@ -7,7 +7,7 @@ use Rattle.wtypes.specs.declared.Value.TheVariants.{I64}
 use Rattle.wtypes.specs.declared.HostCall.{HostCall}
 use Rattle.spec_ledger.specs.declared.TraceStep.{TraceStep}
 use Rattle.spec_ledger.specs.declared.TraceStep.TheVariants.{Opened}
-use Rattle.spec_syntax.specs.Syntax.{FuncType, Func}
+use Rattle.spec_modules.specs.Syntax.{FuncType, Func}
 use Rattle.spec_execution.specs.Configuration.{Setting, Contract, Function, Hosted, Defined}
 use Rattle.spec_execution.specs.Run.{Opens}
 use Rattle.spec_execution.specs.Levels.{asked, asks_in}

@@ -2,7 +2,7 @@
 use Rattle.std.proofs.Common.{◌≡◌, ◌≢◌, ℕ, zero, suc, ◌+◌, Bool, true, false, cond, List, [], ◌∷◌, ◌++◌, length, map, reverse, take, drop, nat_le, refl, sym, ap, subst, arith, Option, Some, None}
 use Rattle.std.specs.Prelude.{unwrap_or}
 use Rattle.wtypes.specs.declared.Value.{Value}
-use Rattle.spec_syntax.specs.Syntax.{Instr, Instrs, nothing, seq}
+use Rattle.spec_modules.specs.Syntax.{Instr, Instrs, nothing, seq}
 use Rattle.spec_ledger.specs.declared.Outcome.TheVariants.{OutOfFuel}
 use Rattle.spec_execution.specs.Configuration.{Setting, Contract, Function, Hosted, Defined, function_at, function_type, Seq, End, Val, Code, Label, Frame, Invoke, code, values, arguments, instr_size, State, Running, fresh}
 use Rattle.spec_execution.specs.Reduction.{Next, Goes, Traps, Asks, Branches, Returns, Ended, Stuck, with_values, found, zero_of, invoke, execute, in_label, in_frame, reduce}

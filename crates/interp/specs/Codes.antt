@@ -10,8 +10,8 @@ use Rattle.wtypes.specs.declared.ValType.{ValType}
 use Rattle.wtypes.specs.declared.Value.{Value}
 use Rattle.wtypes.specs.declared.HostCall.{HostCall}
 use Rattle.spec_ledger.specs.declared.Version.{Version}
-use Rattle.spec_syntax.specs.Syntax.{Instrs, FuncType, Limits, GlobalType, ImportDesc, ImportFunc, ImportTable, ImportMemory, ImportGlobal, ExportDesc, ExportFunc, ExportTable, ExportMemory, ExportGlobal, Import, Func, Global, Export, Element, DataSegment, Module}
-use Rattle.spec_syntax.specs.Codes.{coded_instrs}
+use Rattle.spec_modules.specs.Syntax.{Instrs, FuncType, Limits, GlobalType, ImportDesc, ImportFunc, ImportTable, ImportMemory, ImportGlobal, ExportDesc, ExportFunc, ExportTable, ExportMemory, ExportGlobal, Import, Func, Global, Export, Element, DataSegment, Module}
+use Rattle.spec_modules.specs.Codes.{coded_instrs}
 use Rattle.spec_execution.specs.Configuration.{Setting, Deployed, Contract, Config}
 use Rattle.spec_execution.specs.Codes.{coded_config}
 use Rattle.spec_execution.specs.Levels.{Level, Levels}

@@ -8,3 +8,4 @@ pub mod Machine
 pub mod Asked
 pub mod Callee
 pub mod Run
+pub mod Chains

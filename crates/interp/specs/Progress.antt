@@ -8,7 +8,7 @@ use Rattle.spec_ledger.specs.declared.Op.{Op}
 use Rattle.spec_ledger.specs.declared.Reply.{Reply}
 use Rattle.spec_ledger.specs.declared.Outcome.{Outcome}
 use Rattle.spec_ledger.specs.declared.Outcome.TheVariants.{Trapped, OutOfFuel}
-use Rattle.spec_syntax.specs.Syntax.{Instr}
+use Rattle.spec_modules.specs.Syntax.{Instr}
 use Rattle.spec_execution.specs.Configuration.{Setting, Contract, Seq, End, Val, Code, Free, Label, Frame, Invoke, Config, Running, Trap}
 use Rattle.spec_execution.specs.Run.{ContractCall, opening, Opens, IsReply}
 use Rattle.spec_execution.specs.Levels.{Level, Levels, On, Host, first_level, move, IsChargedMove, Reached, Ends, IsRun}

@@ -1,6 +1,6 @@
 -- Whether a call starts.
 use Rattle.std.specs.Prelude.{◌≡◌, ◌≢◌, ℕ, [], Option, Some, slice_get, option_and_then, unwrap_or}
-use Rattle.spec_syntax.specs.Syntax.{nothing}
+use Rattle.spec_modules.specs.Syntax.{nothing}
 use Rattle.spec_ledger.specs.declared.Outcome.TheVariants.{OutOfFuel, Rejected}
 use Rattle.spec_execution.specs.Configuration.{Setting, Contract}
 use Rattle.spec_execution.specs.Run.{ContractCall, Opening, Opens, Refused, opening}

@@ -2,7 +2,7 @@
 ghost use Rattle.std.specs.Prelude.{◌≡◌, Some, option_map, IfSome, IfNone};
 ghost use Rattle.spec_execution.specs.Run.{opening};
 ghost use Rattle.spec_execution.specs.Levels.{asks_in};
-ghost use Rattle.interp.specs.Played.{IsPlayed};
+ghost use Rattle.interp.specs.Played.{IsPlayed, receipt_of};
 ghost use Rattle.interp.specs.Starting.{IsOpened, IsRejection, LacksFuel, IsWithoutFuel};
 ghost use Rattle.interp.specs.Callee.{setting_view};
 
@@ -10,7 +10,7 @@ use crate::start::{Opened, has_code, open_call};
 use call::Call;
 use laws_soundness::deployed_calls_are_safe;
 use link::deployed::Deployed;
-use spec_ledger::{Outcome, TraceStep, Version};
+use spec_ledger::{Outcome, Receipt, TraceStep, Version};
 use std::alloc::Allocator;
 use std::marker::Model;
 
@@ -162,6 +162,17 @@ impl<'a, A: Allocator + Copy> Finished<'a, A> {
         ensures { result ≡ asks_in self.now.trace }
     {
         self.asks
+    }
+
+    /// What it came to: how its run ended, the fuel that it used and how many levels it entered.
+    pub fn receipt(&self) -> Receipt
+        ensures { result ≡ receipt_of self.now }
+    {
+        Receipt {
+            outcome: self.outcome(),
+            used: self.used(),
+            asks: self.asks(),
+        }
     }
 
     /// These are a run of the call over the contracts.

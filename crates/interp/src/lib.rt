@@ -2,6 +2,7 @@
 #![tactic(auto)]
 
 pub mod finished;
+mod frames;
 mod functions;
 mod imports;
 mod levels;

@@ -1,5 +1,5 @@
 // What a debugger reads off a machine.
-ghost use Rattle.std.specs.Prelude.{◌≡◌, ◌↔◌, ◌<◌, ◌≤◌, ◌+◌, IfOk, IsTrue, length, drop, vec_len, vec_capacity};
+ghost use Rattle.std.specs.Prelude.{◌≡◌, ◌↔◌, ◌<◌, ◌≤◌, ◌+◌, IfOk, IsTrue, length, vec_len, vec_capacity};
 ghost use Rattle.spec_execution.specs.Turns.{state_of};
 ghost use Rattle.interp.specs.Machine.{progress};
 ghost use Rattle.interp.specs.Run.{seen, IsKept};
@@ -12,8 +12,8 @@ use crate::turns::Status;
 use instance::Instance;
 use interp_state::callee::Callee;
 use interp_state::copies::{copy_parts, copy_waiting};
-use interp_state::places::{height_of_call, place_in_code};
-use module_tree::module::Module;
+use interp_state::places::{above, height_of_call, place_in_code};
+use link::deployed::Deployed;
 use spec_ledger::{NoMemory, Outcome, TraceStep};
 use std::alloc::Allocator;
 use thiserror::Error;
@@ -69,17 +69,6 @@ fn has_run_out<'a, A: Allocator + Copy>(run: &Run<'a, A>) -> bool
     ensures { IsShown run.now.status → result ≡ is_out (ending (progress (seen run.now))) }
 {
     matches!(ending_of_run(run), Some(Outcome::OutOfFuel))
-}
-
-// The values from this one on.
-fn above(stack: &[Value], height: usize) -> &[Value]
-    ensures { height ≤ length stack.now → result.now ≡ drop height stack.now }
-{
-    if height <= stack.len() {
-        &stack[height..]
-    } else {
-        &[]
-    }
 }
 
 // Whether there are values to show: while the run goes on, and where it has returned.
@@ -309,7 +298,7 @@ fn copy_run<'a, A: Allocator + Copy>(run: &Run<'a, A>) -> Result<Run<'a, A>, NoM
 
 impl<'a, A: Allocator + Copy> Machine<'a, A> {
     ghost use Rattle.std.specs.Prelude.{◌≡◌, IfOk, length};
-    ghost use Rattle.module_tree.specs.Modules.{module_view};
+    ghost use Rattle.interp.specs.Callee.{contract_view, contracts_view};
     ghost use Rattle.spec_execution.specs.Turns.{state_of};
     ghost use Rattle.std.specs.Prelude.{◌↔◌, IsTrue};
     ghost use Rattle.spec_execution.specs.Levels.{asks_in};
@@ -328,11 +317,18 @@ impl<'a, A: Allocator + Copy> Machine<'a, A> {
         Ok(Machine { run })
     }
 
-    /// The module of the contract that is called.
-    pub fn module(&self) -> &'a Module<A>
-        ensures { module_view result.now ≡ self.now.contract.deployed.tree }
+    /// The contract that is called.
+    pub fn deployed(&self) -> &'a Deployed<A>
+        ensures { contract_view result.now ≡ self.now.contract.deployed }
     {
-        self.run.deployed.module()
+        self.run.deployed
+    }
+
+    /// The contracts that calls run over, in the order of their numbers.
+    pub fn contracts(&self) -> &'a [Deployed<A>]
+        ensures { contracts_view result.now ≡ self.now.setting.contracts }
+    {
+        self.run.contracts
     }
 
     /// The fuel that is used, which is the number of turns that were made.
@@ -391,6 +387,13 @@ impl<'a, A: Allocator + Copy> Machine<'a, A> {
         ensures { result ≡ self.now.call.contract }
     {
         self.run.call.contract()
+    }
+
+    /// The operations with their replies, and the marks of levels.
+    pub fn trace(&self) -> &[TraceStep]
+        ensures { result.now ≡ self.now.trace }
+    {
+        &self.run.trace
     }
 
     /// How many levels were entered.

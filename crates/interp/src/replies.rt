@@ -1,6 +1,6 @@
 // What an import asks for, and what goes on with a reply.
 ghost use Rattle.std.specs.Prelude.{◌≡◌, ◌<◌, ◌≤◌, ◌+◌, ◌-◌, ◌%◌, ◌^◌, ◌++◌, ◌∷◌, [], take, drop, pos, vec_len, vec_capacity};
-ghost use Rattle.spec_numeric.specs.Operators.{bits_of};
+ghost use Rattle.spec_modules.specs.Operators.{bits_of};
 ghost use Rattle.spec_execution.specs.Reduction.{effect_of};
 ghost use Rattle.interp.specs.Asked.{effect_of_code};
 ghost use Rattle.interp.specs.Machine.{progress, params_of, value_of_reply};

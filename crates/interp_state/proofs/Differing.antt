@@ -1,7 +1,7 @@
 -- Lists of types that differ.
 use Rattle.std.proofs.Common.{◌≡◌, ◌≢◌, Bool, true, false, ◌&&◌, List, [], ◌∷◌, length, refl, arith}
 use Rattle.wtypes.specs.declared.ValType.{ValType}
-use Rattle.spec_numeric.specs.Operators.{same_type}
+use Rattle.spec_modules.specs.Operators.{same_type}
 use Rattle.spec_execution.specs.Reduction.{same_types}
 
 pub not_as_long : (ts us : List ValType) → length ts ≢ length us → false ≡ same_types ts us

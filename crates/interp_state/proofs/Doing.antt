@@ -13,7 +13,7 @@ use Rattle.wtypes.specs.declared.CvtOp.{CvtOp}
 use Rattle.wtypes.specs.declared.PlainInstr.{PlainInstr}
 use Rattle.wtypes.specs.declared.TrapCode.TheVariants as trap
 use Rattle.wtypes.specs.declared.PlainInstr.TheVariants.{Unreachable, Nop, Drop, Select, LocalGet, LocalSet, Const, Unary, Binary, Test, Compare, Convert}
-use Rattle.spec_numeric.specs.Operators.{type_of, bits_of, value_of, word, truth, unary, unary_type, unary_of, binary, binary_type, binary_of, answer_of, test, test_type, test_of, compare, compare_type, compare_of, convert, convert_from, convert_to, convert_of}
+use Rattle.spec_modules.specs.Operators.{type_of, bits_of, value_of, word, truth, unary, unary_type, unary_of, binary, binary_type, binary_of, answer_of, test, test_type, test_of, compare, compare_type, compare_of, convert, convert_from, convert_to, convert_of}
 use Rattle.spec_execution.specs.Configuration.{Contract, Seq, Val, State, values}
 use Rattle.spec_execution.specs.Reduction.{Next, Goes, Traps, with_number, with_value, found, answered, execute_plain}
 use Rattle.laws_reduction.specs.Meaning.{at}

@@ -6,3 +6,4 @@ pub mod Copying
 pub mod Placing
 pub mod Doing
 pub mod Differing
+pub mod Unwinding

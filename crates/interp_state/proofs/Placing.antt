@@ -7,7 +7,8 @@ use Rattle.spec_execution.specs.Turns.{place_in}
 use Rattle.interp_state.specs.declared.parts.Kind.{Kind}
 use Rattle.interp_state.specs.declared.parts.Kind.TheVariants as kind
 use Rattle.laws_reduction.specs.Meaning.{Open, listed}
-use Rattle.interp_state.specs.Views.{items_of, ordinal_of, scope_of}
+use Rattle.module_tree.specs.View.{ordinal_of}
+use Rattle.interp_state.specs.Views.{items_of, scope_of}
 use Rattle.interp_state.specs.Innermost.{innermost, function_in, function_of}
 
 -- the place of the first instruction of the code that is left, in the innermost call

@@ -4,7 +4,7 @@ use Rattle.std.proofs.lemmas.List.{take_more}
 use Rattle.wtypes.specs.declared.ValType.{ValType}
 use Rattle.module_tree.specs.declared.instr.Instr.{Instr, Loop}
 use Rattle.module_tree.specs.View.{instrs_view, ordinals}
-use Rattle.spec_syntax.specs.Limits.{counts_from}
+use Rattle.spec_modules.specs.Limits.{counts_from}
 use Rattle.interp_state.specs.declared.parts.Entry.{Entry}
 use Rattle.interp_state.specs.declared.parts.Kind.TheVariants as kind
 use Rattle.interp_state.specs.declared.parts.Parts.{Parts}

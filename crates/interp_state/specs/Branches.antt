@@ -1,8 +1,8 @@
 -- Branches and returns.
 use Rattle.std.specs.Prelude.{◌≡◌, ℕ, ◌+◌, List, ◌∷◌, take, Option}
 use Rattle.wtypes.specs.declared.ValType.{ValType}
-use Rattle.spec_syntax.specs.Syntax.{Instrs}
-use Rattle.spec_syntax.specs.Syntax as syntax
+use Rattle.spec_modules.specs.Syntax.{Instrs}
+use Rattle.spec_modules.specs.Syntax as syntax
 use Rattle.spec_execution.specs.Configuration.{State}
 use Rattle.module_tree.specs.declared.instr.Instr.{Instr}
 use Rattle.interp_state.specs.declared.parts.Entry.{Entry}

@@ -2,7 +2,7 @@
 use Rattle.std.specs.Prelude.{ℕ, List, Option, Some, None, Result, Ok, Err, slice_get, option_map, option_and_then, if◌then◌else◌}
 use Rattle.wtypes.specs.declared.TrapCode.{TrapCode}
 use Rattle.wtypes.specs.declared.TrapCode.TheVariants.{ElementOutOfTable, EmptyElement, TypeMismatch}
-use Rattle.spec_syntax.specs.Syntax.{FuncType}
+use Rattle.spec_modules.specs.Syntax.{FuncType}
 use Rattle.spec_execution.specs.Configuration.{Deployed, function_at, function_type}
 use Rattle.spec_execution.specs.Reduction.{same_function_type}
 

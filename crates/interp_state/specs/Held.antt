@@ -3,7 +3,7 @@ use Rattle.std.specs.Prelude.{◌≡◌, ℕ, ◌<◌, Bool, true, false, List, 
 use Rattle.wtypes.specs.declared.Value.{Value}
 use Rattle.wtypes.specs.declared.PlainInstr.{PlainInstr}
 use Rattle.wtypes.specs.declared.PlainInstr.TheVariants.{Const, LocalGet, LocalSet, LocalTee, Unary, Binary, Test, Compare, Convert}
-use Rattle.spec_numeric.specs.Operators.{type_of, unary_type, binary_type, test_type, compare_type, convert_from, binary_of}
+use Rattle.spec_modules.specs.Operators.{type_of, unary_type, binary_type, test_type, compare_type, convert_from, binary_of}
 use Rattle.laws_reduction.specs.Forms.{runs_on, operands}
 use Rattle.laws_reduction.specs.Plain.{Done}
 

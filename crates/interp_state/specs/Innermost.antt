@@ -1,6 +1,6 @@
 -- The innermost of what is open.
 use Rattle.std.specs.Prelude.{ℕ, List, [], ◌∷◌, Option, Some, None}
-use Rattle.laws_reduction.specs.Meaning.{Scope, Block, Loop, Frame, Open}
+use Rattle.laws_reduction.specs.Meaning.{Item, Scope, Block, Loop, Frame, Open}
 
 -- the innermost of these
 abbrev pub innermost : List Open → Option Open
@@ -16,3 +16,8 @@ function_of (Frame f saved) = Some f
 abbrev pub function_in : List Open → Option ℕ
 function_in [] = None
 function_in (e ∷ es) = function_of e.scope
+
+-- the ordinal of the first of these instructions
+abbrev pub first_ordinal : List Item → Option ℕ
+first_ordinal [] = None
+first_ordinal (i ∷ is) = Some i.ordinal

@@ -14,3 +14,5 @@ pub mod Memories
 pub mod Elements
 pub mod Held
 pub mod Taking
+pub mod Frames
+pub mod Unwinding

@@ -6,14 +6,14 @@ use Rattle.wtypes.specs.declared.LoadOp.{LoadOp}
 use Rattle.wtypes.specs.declared.StoreOp.{StoreOp}
 use Rattle.wtypes.specs.declared.TrapCode.{TrapCode}
 use Rattle.wtypes.specs.declared.TrapCode.TheVariants.{MemoryOutOfBounds}
-use Rattle.spec_numeric.specs.Operators.{type_of, bits_of, value_of}
-use Rattle.spec_numeric.specs.Storage.{load_type, load_width, extended, store_type, store_width, bytes_of_number}
-use Rattle.spec_numeric.specs.Memory.{load, written}
+use Rattle.spec_modules.specs.Operators.{type_of, bits_of, value_of}
+use Rattle.spec_modules.specs.Storage.{load_type, load_width, extended, store_type, store_width, bytes_of_number}
+use Rattle.spec_modules.specs.Memory.{load, written}
 use Rattle.memory.specs.Linear.{Memory}
 use Rattle.memory.specs.declared.StoreRefusal.{StoreRefusal}
 use Rattle.memory.specs.declared.StoreRefusal.TheVariants as refusal
 use Rattle.spec_execution.specs.Reduction.{pages}
-use Rattle.spec_syntax.specs.Profile.{page_size}
+use Rattle.spec_modules.specs.Profile.{page_size}
 use Rattle.interp_state.specs.declared.plain.After.{After}
 use Rattle.interp_state.specs.declared.plain.After.TheVariants as after
 

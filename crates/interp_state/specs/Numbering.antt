@@ -1,22 +1,22 @@
 -- The ordinals of a body.
 use Rattle.std.proofs.Common.{◌≡◌, ℕ, zero, suc, ◌+◌, Bool, true, ◌&&◌, List, [], ◌∷◌, ◌++◌, length, map, refl, sym, ap, ap₂, ◌∙◌, Some, slice_get, subst, rules, arith, Vec, Option, length-append}
-use Rattle.spec_syntax.specs.Shape.{instr_preorder, preorder, size}
+use Rattle.spec_modules.specs.Shape.{instr_preorder, preorder, size}
 use Rattle.wtypes.specs.declared.ValType.{ValType}
 use Rattle.std.specs.List.{list_all}
-use Rattle.spec_syntax.specs.Syntax as syntax
-use Rattle.spec_syntax.specs.Limits.{counts_from, first, second}
+use Rattle.spec_modules.specs.Syntax as syntax
+use Rattle.spec_modules.specs.Limits.{counts_from, first, second}
 use Rattle.std.proofs.lemmas.Bool.{eqb-true}
 use Rattle.wtypes.specs.declared.PlainInstr.{PlainInstr}
 use Rattle.module_tree.specs.declared.instr.Instr.{Instr, Plain, BrTable, Block, Loop, If, out-Instr, fold_out-Instr, fold-Instr, fold-roll-Instr, roll-Instr, map-Instr, ind-Instr, the_lemmas}
 use Rattle.module_tree.specs.declared.instr.Instr.TheOpen.{Instr-F}
 use Rattle.module_tree.specs.declared.module.Func.{Func}
 use Rattle.module_tree.specs.declared.module.Module.{Module}
-use Rattle.module_tree.specs.View.{instr_view, instrs_view, view_step, instr_ordinals, ordinals, ordinals_step}
+use Rattle.module_tree.specs.View.{instr_view, instrs_view, view_step, instr_ordinals, ordinals, ordinals_step, ordinal_of, ordinal_step}
 use Rattle.module_tree.specs.ModuleView.{func_view, func_ordinals, are_numbered}
 use Rattle.spec_execution.specs.Configuration.{instr_size}
 use Rattle.laws_reduction.specs.Meaning.{Item, numbered}
 use Rattle.interp_state.specs.Steps.{AreNumbered}
-use Rattle.interp_state.specs.Views.{item_of, items_of, ordinal_of, ordinal_step}
+use Rattle.interp_state.specs.Views.{item_of, items_of}
 
 -- an instruction has as many ordinals as its syntax
 abbrev Sized : (A : Type 0) → Instr A → Type 0

@@ -1,8 +1,8 @@
 -- What blocks, loops and calls do to the parts of a machine, and what the parts keep.
 use Rattle.std.specs.Prelude.{◌≡◌, ℕ, ◌≤◌, true, List, [], ◌∷◌, length}
-use Rattle.spec_syntax.specs.Limits.{counts_from}
+use Rattle.spec_modules.specs.Limits.{counts_from}
 use Rattle.module_tree.specs.declared.instr.Instr.{Instr}
-use Rattle.module_tree.specs.View.{instr_ordinals}
+use Rattle.module_tree.specs.View.{instr_ordinals, ordinal_of}
 use Rattle.spec_execution.specs.Configuration.{Contract, State}
 use Rattle.laws_reduction.specs.Meaning.{frames, IsOrdered, Settles}
 use Rattle.interp_state.specs.declared.plain.After.{After}
@@ -10,7 +10,7 @@ use Rattle.interp_state.specs.declared.plain.After.TheVariants as after
 use Rattle.interp_state.specs.declared.parts.Kind.{Kind}
 use Rattle.interp_state.specs.declared.parts.Entry.{Entry}
 use Rattle.interp_state.specs.declared.parts.Parts.{Parts}
-use Rattle.interp_state.specs.Views.{view, opens_of, items_of, ordinal_of, scope_of}
+use Rattle.interp_state.specs.Views.{view, opens_of, items_of, scope_of}
 
 -- the same whatever the state beside the locals is
 abbrev pub IsOrderedParts : {A : Type 0} → Parts A → Type 0

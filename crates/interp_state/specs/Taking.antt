@@ -2,7 +2,7 @@
 use Rattle.std.specs.Prelude.{Bool, true, false}
 use Rattle.wtypes.specs.declared.PlainInstr.{PlainInstr}
 use Rattle.wtypes.specs.declared.PlainInstr.TheVariants as op
-use Rattle.spec_syntax.specs.Syntax.{Instr, Plain, BrTable, Block, Loop, If}
+use Rattle.spec_modules.specs.Syntax.{Instr, Plain, BrTable, Block, Loop, If}
 
 abbrev pub plain_takes_memory : PlainInstr → Bool
 plain_takes_memory (op.Const v) = true

@@ -1,8 +1,7 @@
 -- What the parts of a machine are, in the words of the definitions.
-use Rattle.std.specs.Prelude.{ℕ, List, map, reverse}
-use Rattle.module_tree.specs.declared.instr.Instr.{Instr, fold-Instr}
-use Rattle.module_tree.specs.declared.instr.Instr.TheOpen.{Instr-F}
-use Rattle.module_tree.specs.View.{instr_view}
+use Rattle.std.specs.Prelude.{List, map, reverse}
+use Rattle.module_tree.specs.declared.instr.Instr.{Instr}
+use Rattle.module_tree.specs.View.{instr_view, ordinal_of}
 use Rattle.spec_execution.specs.Configuration.{State}
 use Rattle.interp_state.specs.declared.parts.Kind.{Kind}
 use Rattle.interp_state.specs.declared.parts.Kind.TheVariants as kind
@@ -10,16 +9,6 @@ use Rattle.interp_state.specs.declared.parts.Entry.{Entry}
 use Rattle.interp_state.specs.declared.parts.Parts.{Parts}
 use Rattle.instance.specs.States.{based}
 use Rattle.laws_reduction.specs.Meaning.{Item, Scope, Block, Loop, Frame, Open, View}
-
-abbrev pub ordinal_step : {A : Type 0} → Instr-F A ℕ → ℕ
-ordinal_step (Instr-F.Plain n op) = n
-ordinal_step (Instr-F.BrTable n ls l) = n
-ordinal_step (Instr-F.Block n r b) = n
-ordinal_step (Instr-F.Loop n r b) = n
-ordinal_step (Instr-F.If n r t e) = n
-
-abbrev pub ordinal_of : {A : Type 0} → Instr A → ℕ
-ordinal_of {A} = fold-Instr A ℕ ordinal_step
 
 abbrev pub item_of : {A : Type 0} → Instr A → Item
 item_of i = record { ordinal = ordinal_of i; instr = instr_view i }

@@ -1,7 +1,7 @@
 -- The entry of a call, while it waits for the start function to end.
 use Rattle.std.specs.Prelude.{◌≡◌, ℕ, ◌<◌, List, [], ◌∷◌, ◌++◌, length, Option, Some, None, vec_capacity}
 use Rattle.wtypes.specs.declared.Value.{Value}
-use Rattle.spec_syntax.specs.Syntax.{FuncType, Func}
+use Rattle.spec_modules.specs.Syntax.{FuncType, Func}
 use Rattle.spec_execution.specs.Configuration.{Contract, Defined, function_at, Seq, End, Invoke, arguments, State}
 use Rattle.spec_execution.specs.Run.{Reduces}
 use Rattle.spec_execution.specs.Turns.{Frees}

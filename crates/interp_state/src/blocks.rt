@@ -142,7 +142,7 @@ fn leave<'a, A: Allocator + Copy>(parts: &mut Parts<'a, A>)
 }
 
 // The instructions behind the first.
-fn behind<'a, A: Allocator + Copy>(code: &'a [Instr<A>]) -> &'a [Instr<A>]
+pub(crate) fn behind<'a, A: Allocator + Copy>(code: &'a [Instr<A>]) -> &'a [Instr<A>]
     ensures { IsBehind code.now result.now }
 {
     if code.is_empty() { code } else { &code[1..] }

@@ -1,6 +1,6 @@
 // Calls of elements of the table.
 ghost use Rattle.std.specs.Prelude.{◌≡◌, ◌&&◌, Some, IsSome, option_map};
-ghost use Rattle.spec_syntax.specs.Profile.{host_type};
+ghost use Rattle.spec_modules.specs.Profile.{host_type};
 ghost use Rattle.module_tree.specs.ModuleView.{func_type_view};
 ghost use Rattle.spec_execution.specs.Configuration.{function_at, function_type};
 ghost use Rattle.spec_execution.specs.Reduction as reduction;

@@ -8,6 +8,7 @@ pub mod callee;
 pub mod calls;
 pub mod copies;
 pub mod elements;
+pub mod frames;
 pub mod held;
 pub mod memories;
 pub mod parts;

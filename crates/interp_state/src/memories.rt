@@ -1,8 +1,8 @@
 // Loads and stores.
 ghost use Rattle.std.specs.Prelude.{◌≡◌, ◌<◌, ◌≤◌, ◌^◌, IfOk};
 ghost use Rattle.wtypes.specs.declared.ValType.TheVariants as val_type;
-ghost use Rattle.spec_numeric.specs.Operators.{type_of, bits_of, value_of};
-ghost use Rattle.spec_numeric.specs.Storage as storage;
+ghost use Rattle.spec_modules.specs.Operators.{type_of, bits_of, value_of};
+ghost use Rattle.spec_modules.specs.Storage as storage;
 ghost use Rattle.spec_execution.specs.Reduction.{pages};
 ghost use Rattle.laws_reduction.specs.Forms.{HasOne};
 ghost use Rattle.interp_state.specs.Memories.{DidLoad, DidStore, DidGrow, HasPlace, Loaded, StoredAt};

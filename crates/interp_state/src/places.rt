@@ -1,16 +1,18 @@
 // The innermost call, and the place of the code that is left in it.
-ghost use Rattle.std.specs.Prelude.{◌≡◌, option_map};
+ghost use Rattle.std.specs.Prelude.{◌≡◌, ◌≤◌, drop, length, option_map};
 ghost use Rattle.spec_execution.specs.Configuration.{End};
 ghost use Rattle.spec_execution.specs.Turns.{place_in};
 ghost use Rattle.laws_reduction.specs.Meaning.{height, listed};
 ghost use Rattle.laws_reduction.specs.Branches.{in_call};
-ghost use Rattle.interp_state.specs.Views.{open_of, opens_of, items_of, ordinal_of};
-ghost use Rattle.interp_state.specs.Innermost.{innermost, function_in};
+ghost use Rattle.module_tree.specs.View.{ordinal_of};
+ghost use Rattle.interp_state.specs.Views.{open_of, opens_of, items_of};
+ghost use Rattle.interp_state.specs.Innermost.{innermost, first_ordinal, function_in};
 
 use crate::branches::up_to_call;
 use crate::parts::{Entry, Kind, Parts};
 use module_tree::instr::Instr;
 use std::alloc::Allocator;
+use wtypes::Value;
 
 // The innermost call that is open.
 fn innermost_call<'b, 'a, A: Allocator + Copy>(
@@ -38,6 +40,16 @@ fn ordinal<A: Allocator + Copy>(instr: &Instr<A>) -> u32
     }
 }
 
+/// The ordinal of the first of these instructions.
+pub fn next_ordinal<A: Allocator + Copy>(code: &[Instr<A>]) -> Option<u32>
+    ensures { result ≡ first_ordinal (items_of code.now) }
+{
+    match code {
+        [] => None,
+        [instr, ..] => Some(ordinal(instr)),
+    }
+}
+
 /// How many values stand below the innermost call.
 pub fn height_of_call<'a, A: Allocator + Copy>(entries: &[Entry<'a, A>]) -> usize
     ensures { result ≡ height (in_call (opens_of entries.now)) }
@@ -58,5 +70,16 @@ pub fn place_in_code<'a, A: Allocator + Copy>(parts: &Parts<'a, A>) -> Option<(u
     match &entry.kind {
         Kind::Frame(func, _) => Some((*func, ordinal(instr))),
         Kind::Block | Kind::Loop => None,
+    }
+}
+
+/// The values from this one on.
+pub fn above(stack: &[Value], height: usize) -> &[Value]
+    ensures { height ≤ length stack.now → result.now ≡ drop height stack.now }
+{
+    if height <= stack.len() {
+        &stack[height..]
+    } else {
+        &[]
     }
 }

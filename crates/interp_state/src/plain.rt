@@ -1,7 +1,7 @@
 // Instructions that hold no other one and leave the order of the code as it is.
 ghost use Rattle.std.specs.Prelude.{◌≡◌, ◌<◌, ◌++◌, ◌∷◌, [], IfOk, IfErr, true, if◌then◌else◌, ◌==◌};
 ghost use Rattle.wtypes.specs.declared.PlainInstr.TheVariants.{Select, Unary, Binary, Test, Compare, Convert};
-ghost use Rattle.spec_numeric.specs.Operators.{bits_of, unary_type, binary_type, test_type, compare_type, convert_from};
+ghost use Rattle.spec_modules.specs.Operators.{bits_of, unary_type, binary_type, test_type, compare_type, convert_from};
 ghost use Rattle.interp_state.specs.declared.plain.After.TheVariants as after;
 ghost use Rattle.laws_reduction.specs.Forms.{IsReadyFor, HasOne, HasTwo, HasChoice};
 ghost use Rattle.interp_state.specs.Plain.{Did, DidAny};

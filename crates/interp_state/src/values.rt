@@ -1,6 +1,6 @@
 // Values on the stack.
 ghost use Rattle.std.specs.Prelude.{◌≡◌, ◌<◌, ◌++◌, ◌∷◌, [], ◌-◌, length, take, vec_len, vec_capacity, IfOk};
-ghost use Rattle.spec_numeric.specs.Operators.{bits_of};
+ghost use Rattle.spec_modules.specs.Operators.{bits_of};
 
 use std::alloc::{AllocError, Allocator};
 use wtypes::Value;

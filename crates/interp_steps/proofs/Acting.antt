@@ -3,7 +3,7 @@ use Rattle.std.proofs.Common.{◌≡◌, ℕ, ◌+◌, ◌≤◌, List, [], ◌�
 use Rattle.wtypes.specs.declared.Value.{Value}
 use Rattle.wtypes.specs.declared.PlainInstr.{PlainInstr}
 use Rattle.wtypes.specs.declared.PlainInstr.TheVariants.{Call, LocalTee}
-use Rattle.spec_syntax.specs.Syntax.{Plain}
+use Rattle.spec_modules.specs.Syntax.{Plain}
 use Rattle.module_tree.specs.declared.instr.Instr.{Instr}
 use Rattle.spec_execution.specs.Configuration.{Contract, State, Config, End, Trap}
 use Rattle.spec_execution.specs.Reduction.{Next, Goes, reduce, execute, execute_plain}

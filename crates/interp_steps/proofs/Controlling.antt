@@ -6,10 +6,10 @@ use Rattle.wtypes.specs.declared.ValType.{ValType}
 use Rattle.wtypes.specs.declared.ValType.TheVariants.{I32}
 use Rattle.wtypes.specs.declared.Value.{Value}
 use Rattle.wtypes.specs.declared.PlainInstr.TheVariants.{Br, BrIf, Return, GlobalGet, GlobalSet}
-use Rattle.spec_syntax.specs.Syntax.{Plain, BrTable, If, Instrs, nothing, seq}
-use Rattle.spec_syntax.specs.Syntax as syntax
-use Rattle.spec_syntax.specs.Shape.{size}
-use Rattle.spec_numeric.specs.Operators.{type_of, bits_of}
+use Rattle.spec_modules.specs.Syntax.{Plain, BrTable, If, Instrs, nothing, seq}
+use Rattle.spec_modules.specs.Syntax as syntax
+use Rattle.spec_modules.specs.Shape.{size}
+use Rattle.spec_modules.specs.Operators.{type_of, bits_of}
 use Rattle.spec_execution.specs.Configuration.{Contract, Seq, Val, Free, Label, End, State, Config, Running, code, values}
 use Rattle.spec_execution.specs.Reduction.{Next, Goes, Branches, Returns, reduce, execute, execute_plain, with_number, with_value, found, arity}
 use Rattle.spec_execution.specs.Run.{Reduces}

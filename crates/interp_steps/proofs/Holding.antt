@@ -3,8 +3,8 @@ use Rattle.std.proofs.Common.{◌≡◌, ◌≢◌, ℕ, ◌+◌, ◌≤◌, Lis
 use Rattle.wtypes.specs.declared.Value.{Value}
 use Rattle.wtypes.specs.declared.PlainInstr.{PlainInstr}
 use Rattle.wtypes.specs.declared.PlainInstr.TheVariants.{LocalGet, Unary, Binary, Test, Compare, Convert}
-use Rattle.spec_syntax.specs.Syntax.{Plain}
-use Rattle.spec_numeric.specs.Operators.{type_of}
+use Rattle.spec_modules.specs.Syntax.{Plain}
+use Rattle.spec_modules.specs.Operators.{type_of}
 use Rattle.spec_execution.specs.Configuration.{Contract, State}
 use Rattle.module_tree.specs.declared.instr.Instr.{Instr}
 use Rattle.laws_reduction.specs.Meaning.{Item, Open, height, IsOrdered, IsSafeAt, Charged}

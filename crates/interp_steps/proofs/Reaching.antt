@@ -10,10 +10,10 @@ use Rattle.wtypes.specs.declared.StoreOp.{StoreOp}
 use Rattle.wtypes.specs.declared.TrapCode.{TrapCode}
 use Rattle.wtypes.specs.declared.TrapCode.TheVariants.{MemoryOutOfBounds}
 use Rattle.wtypes.specs.declared.PlainInstr.TheVariants.{Load, Store, MemorySize, MemoryGrow}
-use Rattle.spec_syntax.specs.Syntax.{Plain}
-use Rattle.spec_numeric.specs.Operators.{type_of, bits_of, value_of}
-use Rattle.spec_numeric.specs.Storage.{load_type, load_width, extended, store_type, store_width, bytes_of_number}
-use Rattle.spec_numeric.specs.Memory.{load, written}
+use Rattle.spec_modules.specs.Syntax.{Plain}
+use Rattle.spec_modules.specs.Operators.{type_of, bits_of, value_of}
+use Rattle.spec_modules.specs.Storage.{load_type, load_width, extended, store_type, store_width, bytes_of_number}
+use Rattle.spec_modules.specs.Memory.{load, written}
 use Rattle.spec_execution.specs.Configuration.{Contract, Seq, Val, End, State, Trap, values}
 use Rattle.spec_execution.specs.Reduction.{Next, Goes, Traps, reduce, execute, execute_plain, with_number, answered, loaded, stored, grown, with_memory, pages, most_pages}
 use Rattle.spec_execution.specs.Run.{Reduces}
@@ -21,7 +21,7 @@ use Rattle.spec_execution.specs.Turns.{none}
 use Rattle.laws_reduction.specs.Forms.{HasOne}
 use Rattle.laws_reduction.specs.Meaning.{Item, View, listed, put, height, frames, outermost, at, config, Stands, IsOrdered, IsSafeAt, Charged, ChargedTrap}
 use Rattle.interp_state.specs.Memories.{IsLoaded, IsNotLoaded, DidLoad, HasPlace, DidStore, DidGrow, grows, stays}
-use Rattle.spec_syntax.specs.Profile.{page_size}
+use Rattle.spec_modules.specs.Profile.{page_size}
 use Rattle.memory.specs.Linear.{Memory}
 use Rattle.interp_steps.specs.Steps.{ViewLeadsTo}
 use Rattle.interp_state.specs.declared.plain.After.{After}

@@ -1,7 +1,7 @@
 -- A branch, in one turn or in two.
 use Rattle.std.proofs.Common.{◌≡◌, ◌≢◌, ℕ, zero, suc, ◌+◌, ◌-◌, ◌≤◌, ◌<◌, List, [], ◌∷◌, ◌++◌, length, take, drop, refl, sym, ap, ◌∙◌, subst, arith, append-nil}
 use Rattle.std.proofs.lemmas.List.{drop_all, length-take}
-use Rattle.spec_syntax.specs.Syntax as syntax
+use Rattle.spec_modules.specs.Syntax as syntax
 use Rattle.spec_execution.specs.Configuration.{Contract, State}
 use Rattle.instance.specs.States.{based}
 use Rattle.interp_state.specs.declared.parts.Parts.{Parts}

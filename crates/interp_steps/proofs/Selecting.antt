@@ -6,8 +6,8 @@ use Rattle.wtypes.specs.declared.Value.{Value}
 use Rattle.wtypes.specs.declared.TrapCode.{TrapCode}
 use Rattle.wtypes.specs.declared.TrapCode.TheVariants.{TypeMismatch}
 use Rattle.wtypes.specs.declared.PlainInstr.TheVariants.{CallIndirect}
-use Rattle.spec_syntax.specs.Syntax.{Plain, FuncType}
-use Rattle.spec_numeric.specs.Operators.{type_of, bits_of}
+use Rattle.spec_modules.specs.Syntax.{Plain, FuncType}
+use Rattle.spec_modules.specs.Operators.{type_of, bits_of}
 use Rattle.spec_execution.specs.Configuration.{Contract, Function, function_at, function_type, Seq, Invoke, End, State, Trap, values}
 use Rattle.spec_execution.specs.Reduction.{Next, Goes, Traps, Stuck, reduce, execute, execute_plain, with_number, found, indirect, same_function_type}
 use Rattle.spec_execution.specs.Run.{Reduces}

@@ -1,7 +1,7 @@
 -- What one instruction does to the parts of a machine.
 use Rattle.std.specs.Prelude.{◌≡◌, ◌≢◌, ℕ, true, List, [], ◌∷◌, Result, Ok, Err}
 use Rattle.wtypes.specs.declared.PlainInstr.{PlainInstr}
-use Rattle.spec_syntax.specs.Syntax.{Plain}
+use Rattle.spec_modules.specs.Syntax.{Plain}
 use Rattle.module_tree.specs.declared.instr.Instr.{Instr}
 use Rattle.spec_execution.specs.Configuration.{Contract, State}
 use Rattle.spec_execution.specs.Reduction.{most_pages}

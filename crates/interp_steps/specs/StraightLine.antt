@@ -2,7 +2,7 @@
 use Rattle.std.specs.Prelude.{◌≡◌, ◌≢◌, ℕ, ◌+◌, ◌<◌, true, List, [], ◌∷◌, ◌++◌}
 use Rattle.wtypes.specs.declared.Value.{Value}
 use Rattle.wtypes.specs.declared.PlainInstr.{PlainInstr}
-use Rattle.spec_syntax.specs.Syntax.{Plain}
+use Rattle.spec_modules.specs.Syntax.{Plain}
 use Rattle.module_tree.specs.declared.instr.Instr.{Instr}
 use Rattle.module_tree.specs.declared.instr.Instr as tree
 use Rattle.spec_execution.specs.Configuration.{Contract, State}

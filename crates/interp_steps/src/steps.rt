@@ -1,7 +1,7 @@
 // One instruction of the code.
 ghost use Rattle.std.specs.Prelude.{◌≡◌, ◌+◌, ◌<◌, ◌∷◌, length, IfOk, slice_get, unwrap_or, true};
 ghost use Rattle.wtypes.specs.declared.PlainInstr.TheVariants.{CallIndirect};
-ghost use Rattle.spec_numeric.specs.Operators.{bits_of};
+ghost use Rattle.spec_modules.specs.Operators.{bits_of};
 ghost use Rattle.spec_execution.specs.Reduction.{arity as arity_of};
 ghost use Rattle.laws_reduction.specs.Forms.{runs_on, runs_on_instance};
 ghost use Rattle.interp_steps.specs.Steps.{IsOperator, IsReadyToRun, LeadsTo, MayTake, Wants};

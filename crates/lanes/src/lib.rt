@@ -1,14 +1,24 @@
-//! Lanes of positions: each worker has one, which it pushes to and takes from, and each other worker may steal from it.
+//! What threads hand to one another without a lock: lanes of positions, of which each worker has one, which it pushes to and takes from, and each other
+//! worker may steal from it; and a bounded queue, each of whose items is known to meet one fact beside a key that was fixed when the queue was opened.
 #![tactic(auto)]
 
+mod handover;
 mod lane;
+mod parcel;
+mod pass;
+mod queue_rule;
 mod rule;
+#[cfg(test)]
+mod tests;
 mod thief;
 
 ghost use Rattle.std.specs.Prelude.{◌≡◌, ◌<◌, ◌++◌, ◌∷◌, [], All, IfOk, OnOk, length, map, reverse};
 ghost use Rattle.lanes.specs.Lanes.{HasNothing, HaveWaysToOthers, IsNew, IsNewPair, LeadToOthers, deques_of, ends_of, others};
 
+pub use handover::TypedQueue;
 pub use lane::Lane;
+pub use pass::QueuePass;
+pub use queue_rule::ItemFact;
 use std::alloc::Allocator;
 pub use thief::Thief;
 use thief::Way;

@@ -5,7 +5,7 @@ use Rattle.wtypes.specs.declared.Value.TheVariants.{I64}
 use Rattle.wtypes.specs.declared.BinOp.TheVariants.{Add}
 use Rattle.wtypes.specs.declared.TrapCode.TheVariants as trap
 use Rattle.wtypes.specs.declared.PlainInstr.TheVariants.{Unreachable, LocalGet, Const, Binary, Call}
-use Rattle.spec_syntax.specs.Syntax.{Plain, nothing}
+use Rattle.spec_modules.specs.Syntax.{Plain, nothing}
 use Rattle.spec_ledger.specs.declared.Op.TheVariants as op
 use Rattle.spec_ledger.specs.declared.Reply.TheVariants as reply
 use Rattle.spec_ledger.specs.declared.TraceStep.{TraceStep}

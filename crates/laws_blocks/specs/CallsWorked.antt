@@ -8,8 +8,8 @@ use Rattle.wtypes.specs.declared.CvtOp.TheVariants.{I64ExtendI32U}
 use Rattle.wtypes.specs.declared.PlainInstr.TheVariants.{Unreachable, LocalGet, Const, Binary, Call, Drop, Convert}
 use Rattle.wtypes.specs.declared.HostCall.{HostCall}
 use Rattle.wtypes.specs.declared.HostCall.TheVariants as host
-use Rattle.spec_syntax.specs.Syntax.{Instr, Plain, nothing, instrs_of, Func, FuncType, Import, ImportFunc, Export, ExportFunc}
-use Rattle.spec_syntax.specs.Profile.{host_module, host_name, host_type}
+use Rattle.spec_modules.specs.Syntax.{Instr, Plain, nothing, instrs_of, Func, FuncType, Import, ImportFunc, Export, ExportFunc}
+use Rattle.spec_modules.specs.Profile.{host_module, host_name, host_type}
 use Rattle.spec_ledger.specs.declared.Version.TheVariants.{Two}
 use Rattle.spec_ledger.specs.declared.CellKey.{CellKey}
 use Rattle.spec_ledger.specs.declared.Op.TheVariants as op

@@ -3,7 +3,7 @@
 ghost use Rattle.std.specs.Prelude.{◌≡◌, List, [], ◌∷◌, codes};
 ghost use Rattle.std.specs.FinMap.{empty};
 ghost use Rattle.wtypes.specs.declared.TrapCode.TheVariants.{Unreachable};
-ghost use Rattle.spec_syntax.specs.Syntax.{Module};
+ghost use Rattle.spec_modules.specs.Syntax.{Module};
 ghost use Rattle.spec_ledger.specs.declared.Outcome.TheVariants.{OutOfFuel, Rejected, Trapped};
 ghost use Rattle.spec_ledger.specs.declared.Receipt.{Receipt};
 ghost use Rattle.spec_ledger.specs.Book.{GetsReplies, after};

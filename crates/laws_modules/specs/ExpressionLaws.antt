@@ -6,16 +6,16 @@ use Rattle.std.proofs.lemmas.Option.{some_pair_parts}
 use Rattle.wtypes.specs.declared.ValType.{ValType}
 use Rattle.wtypes.specs.declared.ValType.TheVariants as valtype
 use Rattle.wtypes.specs.declared.PlainInstr.{PlainInstr}
-use Rattle.spec_syntax.specs.Syntax.{Instr, Plain, BrTable, Block, Loop, If, Instrs, nothing, seq}
-use Rattle.spec_syntax.specs.Shape.{instr_depth, instrs_depth}
-use Rattle.spec_syntax.specs.Profile.{label_limit}
-use Rattle.spec_binary.specs.Language.{Language, byte, ◌⨾◌}
-use Rattle.spec_binary.specs.Leb.{unsigned}
-use Rattle.spec_binary.specs.Opcodes.{opcode, result_code}
-use Rattle.spec_binary.specs.Grammar.{immediate, vector, closing, instr, instrs, expression}
-use Rattle.spec_binary.specs.Spells.{InstrLabelsFit, LabelsFit}
-use Rattle.spec_binary.specs.Reading.{Read, ◌>>=◌, unsigned_at}
-use Rattle.spec_binary.specs.NumberLaws.{Found, kept, chosen, unsigned_takes, unsigned_again}
+use Rattle.spec_modules.specs.Syntax.{Instr, Plain, BrTable, Block, Loop, If, Instrs, nothing, seq}
+use Rattle.spec_modules.specs.Shape.{instr_depth, instrs_depth}
+use Rattle.spec_modules.specs.Profile.{label_limit}
+use Rattle.spec_modules.specs.Language.{Language, byte, ◌⨾◌}
+use Rattle.spec_modules.specs.Leb.{unsigned}
+use Rattle.spec_modules.specs.Opcodes.{opcode, result_code}
+use Rattle.spec_modules.specs.Grammar.{immediate, vector, closing, instr, instrs, expression}
+use Rattle.spec_modules.specs.Spells.{InstrLabelsFit, LabelsFit}
+use Rattle.spec_modules.specs.Reading.{Read, ◌>>=◌, unsigned_at}
+use Rattle.spec_modules.specs.NumberLaws.{Found, kept, chosen, unsigned_takes, unsigned_again}
 use Rattle.laws_modules.specs.ReadingExpressions.{plain_at, result_at, table_at, items_at, Body, ended, seq_at, one_with, one_at, body_at, expression_at}
 use Rattle.laws_modules.specs.Readers.{Reads, each_any, unsigned_reads, items_takes, items_again, bind_then, map_then, same_some, join_found, seam, fst_is, snd_is}
 use Rattle.laws_modules.specs.PlainLaws.{test_then, plain_takes, plain_again, plain_starts}

@@ -6,16 +6,16 @@ use Rattle.wtypes.specs.declared.ValType.{ValType}
 use Rattle.wtypes.specs.declared.Value.TheVariants as value
 use Rattle.wtypes.specs.declared.PlainInstr.{PlainInstr}
 use Rattle.wtypes.specs.declared.PlainInstr.TheVariants.{Unreachable, Nop, Br, BrIf, Return, Call, CallIndirect, Drop, Select, LocalGet, LocalSet, LocalTee, GlobalGet, GlobalSet, Load, Store, MemorySize, MemoryGrow, Const, Unary, Binary, Test, Compare, Convert}
-use Rattle.spec_syntax.specs.Syntax.{Instr, Plain, BrTable, Block, Loop, If, Instrs, nothing, seq}
-use Rattle.spec_syntax.specs.Shape.{instrs_depth}
-use Rattle.spec_syntax.specs.Profile.{nesting_limit, label_limit}
-use Rattle.spec_syntax.specs.Limits.{is_u32, plain_in_range, instr_fits, instrs_fit, expression_fits, both}
-use Rattle.spec_binary.specs.Language.{byte, empty, ◌⨾◌}
-use Rattle.spec_binary.specs.Leb.{u32}
-use Rattle.spec_binary.specs.Opcodes.{opcode, result_code}
-use Rattle.spec_binary.specs.Grammar.{immediate, closing, instr, instrs, expression}
-use Rattle.spec_binary.specs.Shortest.{u32_bytes, immediate_bytes, closing_bytes, instr_bytes, instrs_bytes, expression_bytes}
-use Rattle.spec_binary.specs.Spells.{InstrLabelsFit, LabelsFit}
+use Rattle.spec_modules.specs.Syntax.{Instr, Plain, BrTable, Block, Loop, If, Instrs, nothing, seq}
+use Rattle.spec_modules.specs.Shape.{instrs_depth}
+use Rattle.spec_modules.specs.Profile.{nesting_limit, label_limit}
+use Rattle.spec_modules.specs.Limits.{is_u32, plain_in_range, instr_fits, instrs_fit, expression_fits, both}
+use Rattle.spec_modules.specs.Language.{byte, empty, ◌⨾◌}
+use Rattle.spec_modules.specs.Leb.{u32}
+use Rattle.spec_modules.specs.Opcodes.{opcode, result_code}
+use Rattle.spec_modules.specs.Grammar.{immediate, closing, instr, instrs, expression}
+use Rattle.spec_modules.specs.Shortest.{u32_bytes, immediate_bytes, closing_bytes, instr_bytes, instrs_bytes, expression_bytes}
+use Rattle.spec_modules.specs.Spells.{InstrLabelsFit, LabelsFit}
 use Rattle.laws_modules.specs.ExpressionLaws.{FitsIn}
 use Rattle.laws_modules.specs.Parts.{Good, good_means, good_byte, good_then, good_front, good_end, good_u32, good_s32, good_s64, good_vector, all_of_each}
 

@@ -7,11 +7,11 @@ use Rattle.std.proofs.lemmas.Bool.{lt-ltb, le-ltb, leb-true, cases_lt}
 use Rattle.std.proofs.lemmas.List.Folds.{list_all-append}
 use Rattle.std.proofs.lemmas.Str.{IsUtf8-from_is_utf8}
 use Rattle.wtypes.specs.declared.ValType.{ValType}
-use Rattle.spec_syntax.specs.Syntax.{FuncType, Limits, GlobalType, Name, ImportDesc, ImportFunc, ImportTable, ImportMemory, ImportGlobal, ExportDesc, ExportFunc, ExportTable, ExportMemory, ExportGlobal, Import, Func, Global, Export, Element, DataSegment}
-use Rattle.spec_syntax.specs.Profile.{local_limit}
-use Rattle.spec_syntax.specs.Limits.{is_u32, is_byte, max_fits, limits_fit, import_desc_fits, import_fits, func_fits, global_fits, export_desc_fits, export_fits, start_fits, element_fits, data_fits, first, second, both}
-use Rattle.spec_binary.specs.Opcodes.{type_code}
-use Rattle.spec_binary.specs.Shortest.{u32_bytes, vector_bytes, expression_bytes, byte_bytes, name_bytes, value_type_bytes, func_type_bytes, limits_bytes_by, limits_bytes, table_type_bytes, mutability_byte, global_type_bytes, import_desc_bytes, import_bytes, export_desc_bytes, export_bytes, global_bytes, element_bytes, data_segment_bytes, maximal_runs, local_run_bytes, sized_bytes, code_bytes, list_section_bytes, start_bytes}
+use Rattle.spec_modules.specs.Syntax.{FuncType, Limits, GlobalType, Name, ImportDesc, ImportFunc, ImportTable, ImportMemory, ImportGlobal, ExportDesc, ExportFunc, ExportTable, ExportMemory, ExportGlobal, Import, Func, Global, Export, Element, DataSegment}
+use Rattle.spec_modules.specs.Profile.{local_limit}
+use Rattle.spec_modules.specs.Limits.{is_u32, is_byte, max_fits, limits_fit, import_desc_fits, import_fits, func_fits, global_fits, export_desc_fits, export_fits, start_fits, element_fits, data_fits, first, second, both}
+use Rattle.spec_modules.specs.Opcodes.{type_code}
+use Rattle.spec_modules.specs.Shortest.{u32_bytes, vector_bytes, expression_bytes, byte_bytes, name_bytes, value_type_bytes, func_type_bytes, limits_bytes_by, limits_bytes, table_type_bytes, mutability_byte, global_type_bytes, import_desc_bytes, import_bytes, export_desc_bytes, export_bytes, global_bytes, element_bytes, data_segment_bytes, maximal_runs, local_run_bytes, sized_bytes, code_bytes, list_section_bytes, start_bytes}
 use Rattle.laws_modules.specs.ShortestBytes.{Bytes, AreBytes, none, front, one, join, byte_then, u32_are_bytes, u32_some, vector_are_bytes, sized_are_bytes, type_is_byte, numbers_are_bytes, expression_are_bytes}
 use Rattle.laws_modules.specs.Modules.{import_is_named, export_is_named, some_append, run_fits, runs_are_short}
 

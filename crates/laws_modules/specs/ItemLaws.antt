@@ -7,14 +7,14 @@ use Rattle.std.proofs.lemmas.Bool.{leb-true, le-leb}
 use Rattle.std.proofs.lemmas.Option.{some_pair_parts}
 use Rattle.wtypes.specs.declared.ValType.{ValType}
 use Rattle.wtypes.specs.declared.ValType.TheVariants as valtype
-use Rattle.spec_syntax.specs.Syntax.{Instrs, FuncType, GlobalType, ImportDesc, ImportFunc, ImportTable, ImportMemory, ImportGlobal, ExportDesc, ExportFunc, ExportTable, ExportMemory, ExportGlobal, Import, Global, Export, Element, DataSegment}
-use Rattle.spec_syntax.specs.Profile.{local_limit}
-use Rattle.spec_binary.specs.Opcodes.{type_code}
-use Rattle.spec_binary.specs.Language.{Language, run, ◌⨾◌}
-use Rattle.spec_binary.specs.Leb.{unsigned}
-use Rattle.spec_binary.specs.Grammar.{vector, name, value_type, func_type, limits, limits_by, table_type, mutability, global_type, import_desc, import, export_desc, export, expression, global, element, data_segment, sized, local_run, all_locals, locals}
-use Rattle.spec_binary.specs.Reading.{Read, ◌>>=◌}
-use Rattle.spec_binary.specs.NumberLaws.{kept, unsigned_takes, unsigned_again}
+use Rattle.spec_modules.specs.Syntax.{Instrs, FuncType, GlobalType, ImportDesc, ImportFunc, ImportTable, ImportMemory, ImportGlobal, ExportDesc, ExportFunc, ExportTable, ExportMemory, ExportGlobal, Import, Global, Export, Element, DataSegment}
+use Rattle.spec_modules.specs.Profile.{local_limit}
+use Rattle.spec_modules.specs.Opcodes.{type_code}
+use Rattle.spec_modules.specs.Language.{Language, run, ◌⨾◌}
+use Rattle.spec_modules.specs.Leb.{unsigned}
+use Rattle.spec_modules.specs.Grammar.{vector, name, value_type, func_type, limits, limits_by, table_type, mutability, global_type, import_desc, import, export_desc, export, expression, global, element, data_segment, sized, local_run, all_locals, locals}
+use Rattle.spec_modules.specs.Reading.{Read, ◌>>=◌}
+use Rattle.spec_modules.specs.NumberLaws.{kept, unsigned_takes, unsigned_again}
 use Rattle.laws_modules.specs.ReadingExpressions.{vector_at}
 use Rattle.laws_modules.specs.Readers.{Reads, Any, each_any, vector_reads, unsigned_reads, bind_then, map_then, fst_is, snd_is, join_found, seam, front_byte}
 use Rattle.laws_modules.specs.ExpressionLaws.{FitsIn, expression_reads}

@@ -5,13 +5,13 @@ use Rattle.std.specs.List.{list_all}
 use Rattle.std.proofs.lemmas.Bool.{le-leb}
 use Rattle.wtypes.specs.declared.ValType.{ValType}
 use Rattle.wtypes.specs.declared.ValType.TheVariants as valtype
-use Rattle.spec_syntax.specs.Syntax.{FuncType, Limits, GlobalType, Name, ImportDesc, ImportFunc, ImportTable, ImportMemory, ImportGlobal, ExportDesc, ExportFunc, ExportTable, ExportMemory, ExportGlobal, Import, Func, Global, Export, Element, DataSegment}
-use Rattle.spec_syntax.specs.Profile.{local_limit}
-use Rattle.spec_syntax.specs.Limits.{is_u32, is_byte, max_fits, limits_fit, import_desc_fits, import_fits, expression_fits, global_fits, export_desc_fits, export_fits, start_fits, element_fits, data_fits, both}
-use Rattle.spec_binary.specs.Language.{byte}
-use Rattle.spec_binary.specs.Opcodes.{type_code}
-use Rattle.spec_binary.specs.Grammar.{vector, name, value_type, func_type, limits_by, limits, table_type, mutability, global_type, import_desc, import, export_desc, export, global, element, data_segment, local_run, all_locals, locals, code, start_section}
-use Rattle.spec_binary.specs.Shortest.{u32_bytes, run_bytes, vector_bytes, byte_bytes, name_bytes, value_type_bytes, func_type_bytes, limits_bytes_by, limits_bytes, table_type_bytes, mutability_byte, global_type_bytes, import_desc_bytes, import_bytes, export_desc_bytes, export_bytes, global_bytes, element_bytes, data_segment_bytes, before_runs, maximal_runs, local_run_bytes, code_bytes, start_bytes, expression_bytes}
+use Rattle.spec_modules.specs.Syntax.{FuncType, Limits, GlobalType, Name, ImportDesc, ImportFunc, ImportTable, ImportMemory, ImportGlobal, ExportDesc, ExportFunc, ExportTable, ExportMemory, ExportGlobal, Import, Func, Global, Export, Element, DataSegment}
+use Rattle.spec_modules.specs.Profile.{local_limit}
+use Rattle.spec_modules.specs.Limits.{is_u32, is_byte, max_fits, limits_fit, import_desc_fits, import_fits, expression_fits, global_fits, export_desc_fits, export_fits, start_fits, element_fits, data_fits, both}
+use Rattle.spec_modules.specs.Language.{byte}
+use Rattle.spec_modules.specs.Opcodes.{type_code}
+use Rattle.spec_modules.specs.Grammar.{vector, name, value_type, func_type, limits_by, limits, table_type, mutability, global_type, import_desc, import, export_desc, export, global, element, data_segment, local_run, all_locals, locals, code, start_section}
+use Rattle.spec_modules.specs.Shortest.{u32_bytes, run_bytes, vector_bytes, byte_bytes, name_bytes, value_type_bytes, func_type_bytes, limits_bytes_by, limits_bytes, table_type_bytes, mutability_byte, global_type_bytes, import_desc_bytes, import_bytes, export_desc_bytes, export_bytes, global_bytes, element_bytes, data_segment_bytes, before_runs, maximal_runs, local_run_bytes, code_bytes, start_bytes, expression_bytes}
 use Rattle.laws_modules.specs.ItemLaws.{GlobalIn, ElementIn, DataIn}
 use Rattle.laws_modules.specs.ModuleLaws.{FuncIn}
 use Rattle.laws_modules.specs.Parts.{Good, good_as, good_means, good_byte, good_then, good_front, good_end, IsU32, good_u32, good_any_byte, u32_rises, u32_sum, good_vector, all_of_each, good_sized, good_section}

@@ -2,12 +2,12 @@
 use Rattle.std.proofs.Common.{◌≡◌, ℕ, suc, ◌≤◌, eqb, leb, List, [], ◌∷◌, ◌++◌, length, Option, Some, None, map, refl, sym, ap, subst, ◌∙◌, inl, inr, arith}
 use Rattle.std.proofs.lemmas.Bool.{eqb-true, eq-eqb, leb-true, le-leb}
 use Rattle.std.proofs.lemmas.Option.{some_pair_parts}
-use Rattle.spec_syntax.specs.Syntax.{Func, Module}
-use Rattle.spec_syntax.specs.Profile.{function_limit}
-use Rattle.spec_binary.specs.Language.{Language, run, ◌⨾◌}
-use Rattle.spec_binary.specs.Leb.{unsigned}
-use Rattle.spec_binary.specs.Grammar.{vector, func_type, import, table_type, limits, global, export, element, code, data_segment, customs, list_section, start_section}
-use Rattle.spec_binary.specs.NumberLaws.{kept, unsigned_takes, unsigned_again}
+use Rattle.spec_modules.specs.Syntax.{Func, Module}
+use Rattle.spec_modules.specs.Profile.{function_limit}
+use Rattle.spec_modules.specs.Language.{Language, run, ◌⨾◌}
+use Rattle.spec_modules.specs.Leb.{unsigned}
+use Rattle.spec_modules.specs.Grammar.{vector, func_type, import, table_type, limits, global, export, element, code, data_segment, customs, list_section, start_section}
+use Rattle.spec_modules.specs.NumberLaws.{kept, unsigned_takes, unsigned_again}
 use Rattle.laws_modules.specs.Readers.{Reads, Any, Each, each_any, vector_reads, items_takes, items_again, bind_then, map_then, fst_is, snd_is, join_found, seam}
 use Rattle.laws_modules.specs.ExpressionLaws.{FitsIn}
 use Rattle.laws_modules.specs.ReadingModules.{u32_at, made_at, codes_at, indices_at, entries_at}

@@ -8,14 +8,14 @@ use Rattle.std.proofs.lemmas.Str.{IsUtf8-from_is_utf8}
 use Rattle.std.proofs.lemmas.Bool.{lt-ltb, leb-true}
 use Rattle.wtypes.specs.declared.ValType.{ValType}
 use Rattle.wtypes.specs.declared.ValType.TheVariants as valtype
-use Rattle.spec_syntax.specs.Syntax.{FuncType, Limits, GlobalType, Name, ImportDesc, ImportFunc, ImportTable, ImportMemory, ImportGlobal, ExportDesc, ExportFunc, ExportTable, ExportMemory, ExportGlobal, Import, Func, Global, Export, Element, DataSegment}
-use Rattle.spec_syntax.specs.Profile.{local_limit}
-use Rattle.spec_syntax.specs.Limits.{is_u32, max_fits, limits_fit, import_desc_fits, import_fits, func_fits, global_fits, export_desc_fits, export_fits, element_fits, data_fits, first, second, both}
-use Rattle.spec_binary.specs.Language.{Language, byte, ◌⨾◌}
-use Rattle.spec_binary.specs.Leb.{u32}
-use Rattle.spec_binary.specs.Opcodes.{type_code}
-use Rattle.spec_binary.specs.Grammar.{expression, vector, name, value_type, func_type, limits_by, limits, table_type, mutability, global_type, import_desc, import, export_desc, export, global, element, data_segment, sized, local_run, all_locals, locals, code}
-use Rattle.spec_binary.specs.Shortest.{u32_bytes, run_bytes, vector_bytes, expression_bytes, byte_bytes, name_bytes, value_type_bytes, func_type_bytes, limits_bytes_by, limits_bytes, table_type_bytes, mutability_byte, global_type_bytes, import_desc_bytes, import_bytes, export_desc_bytes, export_bytes, global_bytes, element_bytes, data_segment_bytes, before_runs, maximal_runs, local_run_bytes, sized_bytes, code_bytes}
+use Rattle.spec_modules.specs.Syntax.{FuncType, Limits, GlobalType, Name, ImportDesc, ImportFunc, ImportTable, ImportMemory, ImportGlobal, ExportDesc, ExportFunc, ExportTable, ExportMemory, ExportGlobal, Import, Func, Global, Export, Element, DataSegment}
+use Rattle.spec_modules.specs.Profile.{local_limit}
+use Rattle.spec_modules.specs.Limits.{is_u32, max_fits, limits_fit, import_desc_fits, import_fits, func_fits, global_fits, export_desc_fits, export_fits, element_fits, data_fits, first, second, both}
+use Rattle.spec_modules.specs.Language.{Language, byte, ◌⨾◌}
+use Rattle.spec_modules.specs.Leb.{u32}
+use Rattle.spec_modules.specs.Opcodes.{type_code}
+use Rattle.spec_modules.specs.Grammar.{expression, vector, name, value_type, func_type, limits_by, limits, table_type, mutability, global_type, import_desc, import, export_desc, export, global, element, data_segment, sized, local_run, all_locals, locals, code}
+use Rattle.spec_modules.specs.Shortest.{u32_bytes, run_bytes, vector_bytes, expression_bytes, byte_bytes, name_bytes, value_type_bytes, func_type_bytes, limits_bytes_by, limits_bytes, table_type_bytes, mutability_byte, global_type_bytes, import_desc_bytes, import_bytes, export_desc_bytes, export_bytes, global_bytes, element_bytes, data_segment_bytes, before_runs, maximal_runs, local_run_bytes, sized_bytes, code_bytes}
 use Rattle.laws_modules.specs.ShortestBytes.{u32_some}
 use Rattle.laws_modules.specs.Spelled.{IsSmall, small_left, small_right, count_spelled, u32_spelled, vector_spelled, expression_spelled}
 

@@ -5,9 +5,9 @@ use Rattle.std.specs.List.{list_all}
 use Rattle.std.proofs.lemmas.Bool.{ltb-true, lt-ltb, le-ltb, cases_lt}
 use Rattle.std.proofs.lemmas.List.Folds.{list_all-append}
 use Rattle.std.proofs.lemmas.Nat.{pow-add}
-use Rattle.spec_syntax.specs.Limits.{is_byte, is_signed, first, second}
-use Rattle.spec_binary.specs.Leb.{unsigned, signed}
-use Rattle.spec_binary.specs.Shortest.{unsigned_bytes, signed_bytes}
+use Rattle.spec_modules.specs.Limits.{is_byte, is_signed, first, second}
+use Rattle.spec_modules.specs.Leb.{unsigned, signed}
+use Rattle.spec_modules.specs.Shortest.{unsigned_bytes, signed_bytes}
 use Rattle.laws_modules.specs.ShortestBytes.{Bytes}
 
 pub parts : (a b bs : List ℕ) → bs ≡ a ++ b → Bytes bs → Bytes a × Bytes b

@@ -3,14 +3,14 @@
 use Rattle.std.proofs.Common.{◌≡◌, ℕ, zero, suc, ◌<◌, ◌≤◌, true, eqb, List, [], ◌∷◌, ◌++◌, length, Option, Some, None, refl, sym, ap, subst, ◌∙◌, arith}
 use Rattle.std.specs.List.{All}
 use Rattle.std.proofs.lemmas.Bool.{eqb-true, eq-eqb}
-use Rattle.spec_syntax.specs.Syntax.{Instrs, Global, Element, DataSegment, Module}
-use Rattle.spec_syntax.specs.Profile.{function_limit}
-use Rattle.spec_binary.specs.Language.{Language, ◌⨾◌}
-use Rattle.spec_binary.specs.Leb.{unsigned}
-use Rattle.spec_binary.specs.Grammar.{vector, func_type, import, table_type, limits, global, export, element, code, data_segment, customs, header, module_grammar}
-use Rattle.spec_binary.specs.Spells.{ExpressionFits, FuncFits, ModuleFits, Spells}
-use Rattle.spec_binary.specs.Reading.{Read, ◌>>=◌}
-use Rattle.spec_binary.specs.NumberLaws.{kept}
+use Rattle.spec_modules.specs.Syntax.{Instrs, Global, Element, DataSegment, Module}
+use Rattle.spec_modules.specs.Profile.{function_limit}
+use Rattle.spec_modules.specs.Language.{Language, ◌⨾◌}
+use Rattle.spec_modules.specs.Leb.{unsigned}
+use Rattle.spec_modules.specs.Grammar.{vector, func_type, import, table_type, limits, global, export, element, code, data_segment, customs, header, module_grammar}
+use Rattle.spec_modules.specs.Spells.{ExpressionFits, FuncFits, ModuleFits, Spells}
+use Rattle.spec_modules.specs.Reading.{Read, ◌>>=◌}
+use Rattle.spec_modules.specs.NumberLaws.{kept}
 use Rattle.laws_modules.specs.ReadingExpressions.{byte_at}
 use Rattle.laws_modules.specs.Readers.{Reads, Each, each_any, vector_reads, bind_then, same_some, byte_takes}
 use Rattle.laws_modules.specs.ExpressionLaws.{FitsIn}

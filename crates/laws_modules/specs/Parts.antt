@@ -4,11 +4,11 @@ use Rattle.std.proofs.Common.{◌≡◌, ℕ, ◌+◌, ◌≤◌, Bool, true, Li
 use Rattle.std.specs.Prelude.{⊤}
 use Rattle.std.specs.List.{list_all}
 use Rattle.std.proofs.lemmas.Bool.{lt-ltb}
-use Rattle.spec_syntax.specs.Limits.{is_u32, is_byte, is_signed, first, both}
-use Rattle.spec_binary.specs.Language.{Language, byte, run, ◌⨾◌}
-use Rattle.spec_binary.specs.Leb.{u32, s32, s64}
-use Rattle.spec_binary.specs.Grammar.{vector, sized, section, customs, list_section}
-use Rattle.spec_binary.specs.Shortest.{u32_bytes, s32_bytes, s64_bytes, run_bytes, vector_bytes, byte_bytes, sized_bytes, list_section_bytes}
+use Rattle.spec_modules.specs.Limits.{is_u32, is_byte, is_signed, first, both}
+use Rattle.spec_modules.specs.Language.{Language, byte, run, ◌⨾◌}
+use Rattle.spec_modules.specs.Leb.{u32, s32, s64}
+use Rattle.spec_modules.specs.Grammar.{vector, sized, section, customs, list_section}
+use Rattle.spec_modules.specs.Shortest.{u32_bytes, s32_bytes, s64_bytes, run_bytes, vector_bytes, byte_bytes, sized_bytes, list_section_bytes}
 use Rattle.laws_modules.specs.Readers.{Each}
 use Rattle.laws_modules.specs.ShortestBytes.{Bytes}
 use Rattle.laws_modules.specs.Numbers.{parts, count_rises, count_sum, unsigned_short, unsigned_below, signed_short, signed_within}

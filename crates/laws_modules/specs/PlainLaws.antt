@@ -16,12 +16,12 @@ use Rattle.wtypes.specs.declared.StoreOp.{StoreOp}
 use Rattle.wtypes.specs.declared.StoreOp.TheVariants.{I32Store, I64Store, I32Store8, I32Store16, I64Store8, I64Store16, I64Store32}
 use Rattle.wtypes.specs.declared.PlainInstr.{PlainInstr}
 use Rattle.wtypes.specs.declared.PlainInstr.TheVariants.{Unreachable, Nop, Br, BrIf, Return, Call, CallIndirect, Drop, Select, LocalGet, LocalSet, LocalTee, GlobalGet, GlobalSet, Load, Store, MemorySize, MemoryGrow, Const, Unary, Binary, Test, Compare, Convert}
-use Rattle.spec_binary.specs.Language.{Language, ◌⨾◌}
-use Rattle.spec_binary.specs.Leb.{unsigned, signed}
-use Rattle.spec_binary.specs.Opcodes.{opcode, load_code, store_code}
-use Rattle.spec_binary.specs.Grammar.{immediate}
-use Rattle.spec_binary.specs.Reading.{Read, ◌>>=◌, unsigned_at, signed_at}
-use Rattle.spec_binary.specs.NumberLaws.{Found, unsigned_takes, unsigned_again, signed_takes, signed_again}
+use Rattle.spec_modules.specs.Language.{Language, ◌⨾◌}
+use Rattle.spec_modules.specs.Leb.{unsigned, signed}
+use Rattle.spec_modules.specs.Opcodes.{opcode, load_code, store_code}
+use Rattle.spec_modules.specs.Grammar.{immediate}
+use Rattle.spec_modules.specs.Reading.{Read, ◌>>=◌, unsigned_at, signed_at}
+use Rattle.spec_modules.specs.NumberLaws.{Found, unsigned_takes, unsigned_again, signed_takes, signed_again}
 use Rattle.laws_modules.specs.Opcodes.{compare_ops, numeric_ops, control_at, convert_at, simple_at, load_ops, load_at, store_ops, store_at}
 use Rattle.laws_modules.specs.ReadingExpressions.{byte_at, memarg_at, index_at, other_at, by_simple, by_access, plain_at}
 use Rattle.laws_modules.specs.Readers.{bind_then, map_then, same_some, byte_takes, join_found, seam, fst_is, snd_is}

@@ -5,11 +5,11 @@ use Rattle.std.proofs.lemmas.Option.{some_pair_parts}
 use Rattle.std.proofs.lemmas.List.{take-append-drop}
 use Rattle.std.proofs.Math.Seq.{take-append_seam, drop-append_seam}
 use Rattle.std.proofs.Common.{length-take}
-use Rattle.spec_binary.specs.Language.{Language, byte, run, ◌⨾◌}
-use Rattle.spec_binary.specs.Leb.{unsigned}
-use Rattle.spec_binary.specs.Grammar.{vector, sized}
-use Rattle.spec_binary.specs.Reading.{Read}
-use Rattle.spec_binary.specs.NumberLaws.{Found, kept, unsigned_takes, unsigned_again}
+use Rattle.spec_modules.specs.Language.{Language, byte, run, ◌⨾◌}
+use Rattle.spec_modules.specs.Leb.{unsigned}
+use Rattle.spec_modules.specs.Grammar.{vector, sized}
+use Rattle.spec_modules.specs.Reading.{Read}
+use Rattle.spec_modules.specs.NumberLaws.{Found, kept, unsigned_takes, unsigned_again}
 use Rattle.laws_modules.specs.Readers.{Reads, Any, bind_then, map_then, same_some, fst_is, snd_is, byte_takes, byte_again, join_found, seam, front_byte}
 use Rattle.laws_modules.specs.ReadingModules.{after_at, both_at, made_at, tagged_at, given_at, sized_at, if_empty, whole_at, inside_at}
 

@@ -3,11 +3,11 @@ use Rattle.std.proofs.Common.{◌≡◌, ℕ, zero, suc, eqb, List, [], ◌∷�
 use Rattle.std.specs.Prelude.{option_map, ⊤}
 use Rattle.std.proofs.lemmas.Bool.{eqb-true, eq-eqb}
 use Rattle.std.proofs.lemmas.Option.{some_pair_parts}
-use Rattle.spec_binary.specs.Language.{Language, byte, run, ◌⨾◌}
-use Rattle.spec_binary.specs.Leb.{unsigned}
-use Rattle.spec_binary.specs.Grammar.{vector}
-use Rattle.spec_binary.specs.Reading.{Read, ◌>>=◌, unsigned_at}
-use Rattle.spec_binary.specs.NumberLaws.{Found, kept, unsigned_takes, unsigned_again}
+use Rattle.spec_modules.specs.Language.{Language, byte, run, ◌⨾◌}
+use Rattle.spec_modules.specs.Leb.{unsigned}
+use Rattle.spec_modules.specs.Grammar.{vector}
+use Rattle.spec_modules.specs.Reading.{Read, ◌>>=◌, unsigned_at}
+use Rattle.spec_modules.specs.NumberLaws.{Found, kept, unsigned_takes, unsigned_again}
 use Rattle.laws_modules.specs.ReadingExpressions.{byte_at, items_at, vector_at}
 
 -- what is read has T and is spelled by F; what has S and is spelled by F is read

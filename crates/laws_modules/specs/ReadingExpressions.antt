@@ -5,9 +5,9 @@ use Rattle.wtypes.specs.declared.ValType.TheVariants as valtype
 use Rattle.wtypes.specs.declared.Value.TheVariants as value
 use Rattle.wtypes.specs.declared.PlainInstr.{PlainInstr}
 use Rattle.wtypes.specs.declared.PlainInstr.TheVariants.{Br, BrIf, Call, CallIndirect, LocalGet, LocalSet, LocalTee, GlobalGet, GlobalSet, Load, Store, MemorySize, MemoryGrow, Const}
-use Rattle.spec_syntax.specs.Syntax.{Instr, Plain, BrTable, Block, Loop, If, Instrs, nothing, seq}
-use Rattle.spec_syntax.specs.Profile.{label_limit}
-use Rattle.spec_binary.specs.Reading.{Read, ◌>>=◌, unsigned_at, signed_at}
+use Rattle.spec_modules.specs.Syntax.{Instr, Plain, BrTable, Block, Loop, If, Instrs, nothing, seq}
+use Rattle.spec_modules.specs.Profile.{label_limit}
+use Rattle.spec_modules.specs.Reading.{Read, ◌>>=◌, unsigned_at, signed_at}
 use Rattle.laws_modules.specs.Opcodes.{simple_at, load_at, store_at}
 
 -- one byte

@@ -3,9 +3,9 @@ use Rattle.std.specs.Prelude.{ℕ, zero, suc, ◌-◌, List, [], ◌∷◌, ◌+
 use Rattle.std.specs.Str.{is_utf8}
 use Rattle.wtypes.specs.declared.ValType.{ValType}
 use Rattle.wtypes.specs.declared.ValType.TheVariants as valtype
-use Rattle.spec_syntax.specs.Syntax.{Instrs, FuncType, Limits, GlobalType, Name, ImportDesc, ImportFunc, ImportTable, ImportMemory, ImportGlobal, ExportDesc, ExportFunc, ExportTable, ExportMemory, ExportGlobal, Import, Func, Global, Export, Element, DataSegment, Module}
-use Rattle.spec_syntax.specs.Profile.{local_limit, function_limit}
-use Rattle.spec_binary.specs.Reading.{Read, ◌>>=◌, unsigned_at}
+use Rattle.spec_modules.specs.Syntax.{Instrs, FuncType, Limits, GlobalType, Name, ImportDesc, ImportFunc, ImportTable, ImportMemory, ImportGlobal, ExportDesc, ExportFunc, ExportTable, ExportMemory, ExportGlobal, Import, Func, Global, Export, Element, DataSegment, Module}
+use Rattle.spec_modules.specs.Profile.{local_limit, function_limit}
+use Rattle.spec_modules.specs.Reading.{Read, ◌>>=◌, unsigned_at}
 use Rattle.laws_modules.specs.ReadingExpressions.{byte_at, vector_at, items_at, expression_at}
 
 abbrev pub u32_at : List ℕ → Read ℕ

@@ -3,11 +3,11 @@ use Rattle.std.proofs.Common.{◌≡◌, ℕ, zero, suc, ◌<◌, ◌≤◌, ◌
 use Rattle.std.specs.Prelude.{option_map, ⊤}
 use Rattle.std.proofs.lemmas.Bool.{eqb-true, eqb-false, eq-eqb, ne_eqb}
 use Rattle.std.proofs.lemmas.Option.{some_pair_parts}
-use Rattle.spec_syntax.specs.Syntax.{Name}
-use Rattle.spec_binary.specs.Language.{Language, ◌⨾◌}
-use Rattle.spec_binary.specs.Grammar.{section, custom, customs, times}
-use Rattle.spec_binary.specs.Reading.{Read, ◌>>=◌}
-use Rattle.spec_binary.specs.NumberLaws.{chosen}
+use Rattle.spec_modules.specs.Syntax.{Name}
+use Rattle.spec_modules.specs.Language.{Language, ◌⨾◌}
+use Rattle.spec_modules.specs.Grammar.{section, custom, customs, times}
+use Rattle.spec_modules.specs.Reading.{Read, ◌>>=◌}
+use Rattle.spec_modules.specs.NumberLaws.{chosen}
 use Rattle.laws_modules.specs.Readers.{Reads, bind_then, map_then, same_some, fst_is, snd_is, seam, join_found}
 use Rattle.laws_modules.specs.ReadingModules.{sized_at, name_at, inside_at, skip_at, skip, slot_at}
 use Rattle.laws_modules.specs.ReaderLaws.{sized_takes, sized_again, sized_shorter, inside_reads}

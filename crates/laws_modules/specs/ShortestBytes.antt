@@ -24,10 +24,10 @@ use Rattle.wtypes.specs.declared.StoreOp.{StoreOp}
 use Rattle.wtypes.specs.declared.StoreOp.TheVariants.{I32Store, I64Store, I32Store8, I32Store16, I64Store8, I64Store16, I64Store32}
 use Rattle.wtypes.specs.declared.PlainInstr.{PlainInstr}
 use Rattle.wtypes.specs.declared.PlainInstr.TheVariants.{Unreachable, Nop, Br, BrIf, Return, Call, CallIndirect, Drop, Select, LocalGet, LocalSet, LocalTee, GlobalGet, GlobalSet, Load, Store, MemorySize, MemoryGrow, Const, Unary, Binary, Test, Compare, Convert}
-use Rattle.spec_syntax.specs.Syntax.{Instr, Plain, BrTable, Block, Loop, If, Instrs, nothing, seq}
-use Rattle.spec_syntax.specs.Limits.{is_u32, is_byte, is_signed, plain_in_range, instr_fits, instrs_fit, expression_fits, first, second, both}
-use Rattle.spec_binary.specs.Opcodes.{at_type, unary_code, binary_code, test_code, compare_code, convert_code, load_code, store_code, opcode, type_code, result_code}
-use Rattle.spec_binary.specs.Shortest.{unsigned_bytes, signed_bytes, u32_bytes, s32_bytes, s64_bytes, run_bytes, vector_bytes, immediate_bytes, closing_bytes, instr_bytes, instrs_bytes, expression_bytes, sized_bytes}
+use Rattle.spec_modules.specs.Syntax.{Instr, Plain, BrTable, Block, Loop, If, Instrs, nothing, seq}
+use Rattle.spec_modules.specs.Limits.{is_u32, is_byte, is_signed, plain_in_range, instr_fits, instrs_fit, expression_fits, first, second, both}
+use Rattle.spec_modules.specs.Opcodes.{at_type, unary_code, binary_code, test_code, compare_code, convert_code, load_code, store_code, opcode, type_code, result_code}
+use Rattle.spec_modules.specs.Shortest.{unsigned_bytes, signed_bytes, u32_bytes, s32_bytes, s64_bytes, run_bytes, vector_bytes, immediate_bytes, closing_bytes, instr_bytes, instrs_bytes, expression_bytes, sized_bytes}
 
 abbrev pub Bytes : List ℕ → Type 0
 Bytes bs = list_all is_byte bs ≡ true

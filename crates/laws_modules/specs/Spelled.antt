@@ -7,14 +7,14 @@ use Rattle.wtypes.specs.declared.ValType.{ValType}
 use Rattle.wtypes.specs.declared.Value.TheVariants as value
 use Rattle.wtypes.specs.declared.PlainInstr.{PlainInstr}
 use Rattle.wtypes.specs.declared.PlainInstr.TheVariants.{Unreachable, Nop, Br, BrIf, Return, Call, CallIndirect, Drop, Select, LocalGet, LocalSet, LocalTee, GlobalGet, GlobalSet, Load, Store, MemorySize, MemoryGrow, Const, Unary, Binary, Test, Compare, Convert}
-use Rattle.spec_syntax.specs.Syntax.{Instr, Plain, BrTable, Block, Loop, If, Instrs, nothing, seq}
-use Rattle.spec_syntax.specs.Limits.{is_u32, is_signed, plain_in_range, instr_fits, instrs_fit, expression_fits, first, second}
-use Rattle.spec_binary.specs.Language.{Language, run}
-use Rattle.spec_binary.specs.Leb.{u32, s32, s64}
-use Rattle.spec_binary.specs.Opcodes.{opcode, result_code}
-use Rattle.spec_binary.specs.Grammar.{immediate, closing, instr, instrs, expression, vector}
-use Rattle.spec_binary.specs.Shortest.{u32_bytes, s32_bytes, s64_bytes, immediate_bytes, closing_bytes, instr_bytes, instrs_bytes, expression_bytes, run_bytes, vector_bytes}
-use Rattle.spec_binary.specs.ShortestLaws.{shortest_unsigned, shortest_positive, shortest_negative}
+use Rattle.spec_modules.specs.Syntax.{Instr, Plain, BrTable, Block, Loop, If, Instrs, nothing, seq}
+use Rattle.spec_modules.specs.Limits.{is_u32, is_signed, plain_in_range, instr_fits, instrs_fit, expression_fits, first, second}
+use Rattle.spec_modules.specs.Language.{Language, run}
+use Rattle.spec_modules.specs.Leb.{u32, s32, s64}
+use Rattle.spec_modules.specs.Opcodes.{opcode, result_code}
+use Rattle.spec_modules.specs.Grammar.{immediate, closing, instr, instrs, expression, vector}
+use Rattle.spec_modules.specs.Shortest.{u32_bytes, s32_bytes, s64_bytes, immediate_bytes, closing_bytes, instr_bytes, instrs_bytes, expression_bytes, run_bytes, vector_bytes}
+use Rattle.spec_modules.specs.ShortestLaws.{shortest_unsigned, shortest_positive, shortest_negative}
 use Rattle.laws_modules.specs.ShortestBytes.{u32_some, no_fewer}
 
 abbrev pub IsSmall : List ℕ → Type 0

@@ -5,12 +5,12 @@ use Rattle.std.specs.Prelude.{⊤}
 use Rattle.std.specs.List.{list_all}
 use Rattle.std.proofs.lemmas.List.{append-nil}
 use Rattle.std.proofs.lemmas.Bool.{le-leb}
-use Rattle.spec_syntax.specs.Syntax.{Func, Module}
-use Rattle.spec_syntax.specs.Profile.{function_limit, local_limit}
-use Rattle.spec_syntax.specs.Limits.{is_u32, is_byte, limits_fit, import_fits, expression_fits, func_fits, global_fits, export_fits, element_fits, data_fits, module_fits, module_fits-from, both}
-use Rattle.spec_binary.specs.Language.{Language, ◌⨾◌}
-use Rattle.spec_binary.specs.Grammar.{header, customs, module_grammar}
-use Rattle.spec_binary.specs.Shortest.{u32_bytes, func_type_bytes, import_bytes, table_type_bytes, limits_bytes, global_bytes, export_bytes, start_bytes, element_bytes, code_bytes, data_segment_bytes, list_section_bytes, shortest}
+use Rattle.spec_modules.specs.Syntax.{Func, Module}
+use Rattle.spec_modules.specs.Profile.{function_limit, local_limit}
+use Rattle.spec_modules.specs.Limits.{is_u32, is_byte, limits_fit, import_fits, expression_fits, func_fits, global_fits, export_fits, element_fits, data_fits, module_fits, module_fits-from, both}
+use Rattle.spec_modules.specs.Language.{Language, ◌⨾◌}
+use Rattle.spec_modules.specs.Grammar.{header, customs, module_grammar}
+use Rattle.spec_modules.specs.Shortest.{u32_bytes, func_type_bytes, import_bytes, table_type_bytes, limits_bytes, global_bytes, export_bytes, start_bytes, element_bytes, code_bytes, data_segment_bytes, list_section_bytes, shortest}
 use Rattle.laws_modules.specs.Readers.{Each}
 use Rattle.laws_modules.specs.ItemLaws.{GlobalIn, ElementIn, DataIn}
 use Rattle.laws_modules.specs.ModuleLaws.{FuncIn}

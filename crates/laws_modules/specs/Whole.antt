@@ -2,15 +2,15 @@
 use Rattle.std.proofs.Common.{◌≡◌, ℕ, zero, suc, ◌<◌, ◌≤◌, Bool, true, ◌&&◌, List, [], ◌∷◌, ◌++◌, length, nat_le, map, Option, Some, None, refl, sym, ap, subst, inl, arith, append_assoc, length-append}
 use Rattle.std.specs.List.{list_all, All}
 use Rattle.std.proofs.lemmas.Bool.{leb-true}
-use Rattle.spec_syntax.specs.Syntax.{Instr, Plain, BrTable, Block, Loop, If, Instrs, nothing, seq, Limits, Func, Global, Element, DataSegment, Module}
-use Rattle.spec_syntax.specs.Shape.{instrs_depth}
-use Rattle.spec_syntax.specs.Profile.{byte_limit, function_limit, local_limit, nesting_limit, label_limit}
-use Rattle.spec_syntax.specs.Limits.{is_u32, limits_fit, import_fits, instr_fits, instrs_fit, expression_fits, func_fits, global_fits, export_fits, start_fits, element_fits, data_fits, module_fits, module_fits-means, first, second, both}
-use Rattle.spec_binary.specs.Language.{Language, ◌⨾◌}
-use Rattle.spec_binary.specs.Leb.{u32}
-use Rattle.spec_binary.specs.Grammar.{vector, header, func_type, import, table_type, limits, global, export, element, code, data_segment, customs, list_section, start_section, module_grammar}
-use Rattle.spec_binary.specs.Shortest.{u32_bytes, vector_bytes, func_type_bytes, import_bytes, table_type_bytes, limits_bytes, global_type_bytes, global_bytes, export_bytes, element_bytes, code_bytes, data_segment_bytes, expression_bytes, sized_bytes, list_section_bytes, start_bytes, shortest}
-use Rattle.spec_binary.specs.Spells.{InstrLabelsFit, LabelsFit, ExpressionFits, FuncFits, ModuleFits, Spells}
+use Rattle.spec_modules.specs.Syntax.{Instr, Plain, BrTable, Block, Loop, If, Instrs, nothing, seq, Limits, Func, Global, Element, DataSegment, Module}
+use Rattle.spec_modules.specs.Shape.{instrs_depth}
+use Rattle.spec_modules.specs.Profile.{byte_limit, function_limit, local_limit, nesting_limit, label_limit}
+use Rattle.spec_modules.specs.Limits.{is_u32, limits_fit, import_fits, instr_fits, instrs_fit, expression_fits, func_fits, global_fits, export_fits, start_fits, element_fits, data_fits, module_fits, module_fits-means, first, second, both}
+use Rattle.spec_modules.specs.Language.{Language, ◌⨾◌}
+use Rattle.spec_modules.specs.Leb.{u32}
+use Rattle.spec_modules.specs.Grammar.{vector, header, func_type, import, table_type, limits, global, export, element, code, data_segment, customs, list_section, start_section, module_grammar}
+use Rattle.spec_modules.specs.Shortest.{u32_bytes, vector_bytes, func_type_bytes, import_bytes, table_type_bytes, limits_bytes, global_type_bytes, global_bytes, export_bytes, element_bytes, code_bytes, data_segment_bytes, expression_bytes, sized_bytes, list_section_bytes, start_bytes, shortest}
+use Rattle.spec_modules.specs.Spells.{InstrLabelsFit, LabelsFit, ExpressionFits, FuncFits, ModuleFits, Spells}
 use Rattle.laws_modules.specs.ShortestBytes.{AreBytes, all_below, join, u32_are_bytes, u32_some}
 use Rattle.laws_modules.specs.Spelled.{IsSmall, small_left, small_right, u32_spelled, vector_spelled}
 use Rattle.laws_modules.specs.ItemBytes.{func_type_are_bytes, limits_are_bytes, table_type_are_bytes, import_are_bytes, export_are_bytes, global_are_bytes, element_are_bytes, data_are_bytes, code_are_bytes, section_are_bytes, start_are_bytes}

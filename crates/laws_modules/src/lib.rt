@@ -5,10 +5,10 @@
 mod expressions;
 
 ghost use Rattle.std.specs.Prelude.{◌≡◌, ◌≤◌, ℕ, List, length, true};
-ghost use Rattle.spec_syntax.specs.Syntax.{Module};
-ghost use Rattle.spec_syntax.specs.Limits.{module_fits};
-ghost use Rattle.spec_binary.specs.Shortest.{shortest};
-ghost use Rattle.spec_binary.specs.Spells.{Spells};
+ghost use Rattle.spec_modules.specs.Syntax.{Module};
+ghost use Rattle.spec_modules.specs.Limits.{module_fits};
+ghost use Rattle.spec_modules.specs.Shortest.{shortest};
+ghost use Rattle.spec_modules.specs.Spells.{Spells};
 
 pub use crate::expressions::one_expression;
 

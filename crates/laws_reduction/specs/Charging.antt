@@ -5,7 +5,7 @@ use Rattle.std.proofs.lemmas.List.{take-append-le, drop-append-le, length-drop}
 use Rattle.wtypes.specs.declared.Value.{Value}
 use Rattle.wtypes.specs.declared.TrapCode.{TrapCode}
 use Rattle.wtypes.specs.declared.PlainInstr.{PlainInstr}
-use Rattle.spec_syntax.specs.Syntax.{Plain}
+use Rattle.spec_modules.specs.Syntax.{Plain}
 use Rattle.laws_reduction.specs.Forms.{operands}
 use Rattle.laws_reduction.specs.Meaning.{Item, Open, listed, put, height, around, frames, outermost, at, whole, Stands, View, config}
 use Rattle.laws_reduction.specs.Plain.{onto, Ran, Fell}

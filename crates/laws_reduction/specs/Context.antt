@@ -4,7 +4,7 @@ use mathlib.Core.Path.{fun_ext}
 use Rattle.wtypes.specs.declared.Value.{Value}
 use Rattle.wtypes.specs.declared.TrapCode.{TrapCode}
 use Rattle.spec_ledger.specs.declared.Reply.{Reply}
-use Rattle.spec_syntax.specs.Syntax.{nothing}
+use Rattle.spec_modules.specs.Syntax.{nothing}
 use Rattle.laws_reduction.specs.Meaning.{Item, Scope, Block, Loop, Frame, Open, listed, put, continuation, behind, outer, item, height, around, deeper, frames, outermost, at}
 use Rattle.laws_reduction.specs.Plain.{onto}
 use Rattle.spec_execution.specs.Configuration.{Contract, Seq, End, State, values}

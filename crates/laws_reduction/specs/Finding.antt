@@ -7,13 +7,13 @@ use Rattle.wtypes.specs.declared.ValType.TheVariants.{I32, I64}
 use Rattle.wtypes.specs.declared.Value.{Value}
 use Rattle.wtypes.specs.declared.PlainInstr.{PlainInstr}
 use Rattle.wtypes.specs.declared.PlainInstr.TheVariants.{Unreachable, Nop, Call, Drop, Select, LocalGet, LocalSet, LocalTee, Const, Unary, Binary, Test, Compare, Convert}
-use Rattle.spec_numeric.specs.Operators.{same_type, type_of, bits_of, unary_type, binary_type, test_type, compare_type, convert_from}
+use Rattle.spec_modules.specs.Operators.{same_type, type_of, bits_of, unary_type, binary_type, test_type, compare_type, convert_from}
 use Rattle.laws_reduction.specs.Forms.{runs_on, operands, HasOne, HasTwo, HasChoice, CanSet, IsReadyFor}
 use Rattle.laws_reduction.specs.Meaning.{Open, Stands, height, frames, at}
 use Rattle.laws_reduction.specs.Plain.{onto}
 use Rattle.laws_reduction.specs.Charging.{above, height-le}
 use Rattle.spec_execution.specs.Configuration.{Contract, Seq, Val, Free, State, values}
-use Rattle.spec_syntax.specs.Syntax.{Plain}
+use Rattle.spec_modules.specs.Syntax.{Plain}
 use Rattle.spec_execution.specs.Reduction.{Next, Goes, Stuck, with_number, with_value, found, execute_plain, execute, reduce}
 use Rattle.laws_reduction.specs.Context.{values_onto, reduce_put}
 

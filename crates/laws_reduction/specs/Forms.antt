@@ -5,7 +5,7 @@ use Rattle.wtypes.specs.declared.ValType.TheVariants.{I32}
 use Rattle.wtypes.specs.declared.Value.{Value}
 use Rattle.wtypes.specs.declared.PlainInstr.{PlainInstr}
 use Rattle.wtypes.specs.declared.PlainInstr.TheVariants.{Unreachable, Nop, Call, Drop, Select, LocalGet, LocalSet, LocalTee, GlobalGet, GlobalSet, Load, Store, MemorySize, MemoryGrow, Const, Unary, Binary, Test, Compare, Convert}
-use Rattle.spec_numeric.specs.Operators.{type_of, unary_type, binary_type, test_type, compare_type, convert_from}
+use Rattle.spec_modules.specs.Operators.{type_of, unary_type, binary_type, test_type, compare_type, convert_from}
 
 -- the next instruction is the one behind it, or it is a call
 abbrev pub runs_on : PlainInstr → Bool

@@ -6,7 +6,7 @@ use Rattle.std.proofs.lemmas.Bool.{lt-ltb, leb-true}
 use Rattle.std.proofs.lemmas.List.{length-take, length-drop, take-append-drop, take-append-le}
 use Rattle.wtypes.specs.declared.HostCall.{HostCall}
 use Rattle.wtypes.specs.declared.Value.{Value}
-use Rattle.spec_syntax.specs.Profile.{host_type}
+use Rattle.spec_modules.specs.Profile.{host_type}
 use Rattle.spec_ledger.specs.declared.Reply.{Reply}
 use Rattle.spec_execution.specs.Configuration.{Contract, Function, Hosted, defined, function_at, function_type, Seq, End, State, values, Invoke}
 use Rattle.spec_execution.specs.Reduction.{HostEffect, Next, Asks, Stuck, reduce, found, with_values, invoke, effect_of, replied}

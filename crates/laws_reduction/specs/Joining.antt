@@ -9,13 +9,13 @@ use Rattle.wtypes.specs.declared.TrapCode.{TrapCode}
 use Rattle.wtypes.specs.declared.TrapCode.TheVariants as trap
 use Rattle.wtypes.specs.declared.PlainInstr.{PlainInstr}
 use Rattle.wtypes.specs.declared.PlainInstr.TheVariants.{Unreachable, Nop, Br, BrIf, Return, Call, CallIndirect, Drop, Select, LocalGet, LocalSet, LocalTee, GlobalGet, GlobalSet, Load, Store, MemorySize, MemoryGrow, Const, Unary, Binary, Test, Compare, Convert}
-use Rattle.spec_syntax.specs.Syntax.{Instr, Plain, BrTable, Block, Loop, If, Instrs, nothing, seq, FuncType}
+use Rattle.spec_modules.specs.Syntax.{Instr, Plain, BrTable, Block, Loop, If, Instrs, nothing, seq, FuncType}
 use Rattle.spec_ledger.specs.declared.Reply.{Reply}
 use Rattle.spec_ledger.specs.declared.Reply.TheVariants as reply
-use Rattle.spec_numeric.specs.Operators.{same_type, type_of, bits_of}
-use Rattle.spec_numeric.specs.Storage.{load_type, load_width, extended, store_width}
-use Rattle.spec_numeric.specs.Memory.{load, store}
-use Rattle.spec_syntax.specs.Profile.{frame_limit}
+use Rattle.spec_modules.specs.Operators.{same_type, type_of, bits_of}
+use Rattle.spec_modules.specs.Storage.{load_type, load_width, extended, store_width}
+use Rattle.spec_modules.specs.Memory.{load, store}
+use Rattle.spec_modules.specs.Profile.{frame_limit}
 use Rattle.spec_execution.specs.Configuration.{Contract, Function, Hosted, Defined, function_at, function_type, Seq, End, Val, Code, Free, Label, Frame, Invoke, code, values, instr_size, State, Config, Running, Trap}
 use Rattle.spec_execution.specs.Reduction.{Next, Goes, Traps, Asks, Branches, Returns, Ended, Stuck, with_number, with_value, with_values, found, answered, loaded, stored, grown, most_pages, pages, same_function_type, effect_of, zero_of, indirect, replied, invoke, execute_plain, execute, in_label, in_frame, reduce}
 use Rattle.spec_execution.specs.Run.{next, Reduces, goes, traps, IsCharged, IsStuck}

@@ -3,7 +3,7 @@ use Rattle.std.proofs.Common.{◌≡◌, ℕ, ◌+◌, ◌≤◌, List, [], ◌�
 use Rattle.std.proofs.lemmas.List.{take-append-le, drop-append-le, take-append-drop, length-take}
 use Rattle.std.proofs.Math.Seq.{drop-length, take-length}
 use Rattle.wtypes.specs.declared.Value.{Value}
-use Rattle.spec_syntax.specs.Syntax.{nothing}
+use Rattle.spec_modules.specs.Syntax.{nothing}
 use Rattle.laws_reduction.specs.Meaning.{Item, Scope, Block, Loop, Frame, Open, listed, put, item, outer, behind, continuation, height, around, frames, outermost, at, whole, Stands, View, config, IsOrdered, Settles, EachBegins}
 use Rattle.laws_reduction.specs.Plain.{onto}
 use Rattle.laws_reduction.specs.Context.{values_onto, reduce_put}

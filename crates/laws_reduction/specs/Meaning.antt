@@ -2,7 +2,7 @@
 use Rattle.std.specs.Prelude.{◌≡◌, ℕ, ◌+◌, ◌≤◌, List, [], ◌∷◌, length, take, drop}
 use Rattle.wtypes.specs.declared.Value.{Value}
 use Rattle.wtypes.specs.declared.TrapCode.{TrapCode}
-use Rattle.spec_syntax.specs.Syntax.{Instr, Instrs, nothing, seq}
+use Rattle.spec_modules.specs.Syntax.{Instr, Instrs, nothing, seq}
 use Rattle.spec_execution.specs.Configuration as c
 use Rattle.spec_execution.specs.Configuration.{Contract, Seq, End, Val, Code, State, Config, Running, Trap}
 use Rattle.spec_execution.specs.Run.{next, IsStuck, Reduces}

@@ -1,6 +1,6 @@
 -- Where no label and no frame is at its end, an instruction of the code is to come, or the run has ended.
-use Rattle.spec_numeric.specs.Storage.{load_width, store_width}
-use Rattle.spec_numeric.specs.Memory.{load, store}
+use Rattle.spec_modules.specs.Storage.{load_width, store_width}
+use Rattle.spec_modules.specs.Memory.{load, store}
 use Rattle.std.proofs.Common.{◌≡◌, ◌+◌, ℕ, zero, suc, Bool, true, false, nat_le, List, [], ◌∷◌, length, take, drop, refl, sym, subst, Option, Some, None, Result, Ok, Err, slice_get}
 use Rattle.std.specs.Prelude.{if◌then◌else◌, ◌==◌}
 use Rattle.wtypes.specs.declared.ValType.TheVariants.{I32}
@@ -9,9 +9,9 @@ use Rattle.wtypes.specs.declared.ValType.{ValType}
 use Rattle.wtypes.specs.declared.TrapCode.{TrapCode}
 use Rattle.wtypes.specs.declared.PlainInstr.{PlainInstr}
 use Rattle.wtypes.specs.declared.PlainInstr.TheVariants.{Unreachable, Nop, Br, BrIf, Return, Call, CallIndirect, Drop, Select, LocalGet, LocalSet, LocalTee, GlobalGet, GlobalSet, Load, Store, MemorySize, MemoryGrow, Const, Unary, Binary, Test, Compare, Convert}
-use Rattle.spec_syntax.specs.Syntax.{Instr, Plain, BrTable, If, Instrs, nothing, FuncType}
-use Rattle.spec_syntax.specs.Syntax as syntax
-use Rattle.spec_numeric.specs.Operators.{same_type, type_of, bits_of, value_of, word, binary, binary_type}
+use Rattle.spec_modules.specs.Syntax.{Instr, Plain, BrTable, If, Instrs, nothing, FuncType}
+use Rattle.spec_modules.specs.Syntax as syntax
+use Rattle.spec_modules.specs.Operators.{same_type, type_of, bits_of, value_of, word, binary, binary_type}
 use Rattle.laws_reduction.specs.Meaning.{Item, Scope, Block, Loop, Frame, Open, listed, outer, behind, continuation, height, frames, outermost, at, state, whole, View, sequence, IsFine, Settles}
 use Rattle.laws_reduction.specs.Plain.{onto}
 use Rattle.laws_reduction.specs.Context.{reduce_put, lift, through}

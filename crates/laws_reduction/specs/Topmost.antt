@@ -5,7 +5,7 @@ use Rattle.std.proofs.lemmas.List.{reverse-append}
 use Rattle.wtypes.specs.declared.ValType.{ValType}
 use Rattle.wtypes.specs.declared.ValType.TheVariants.{I32, I64}
 use Rattle.wtypes.specs.declared.Value.{Value}
-use Rattle.spec_numeric.specs.Operators.{same_type, type_of, bits_of}
+use Rattle.spec_modules.specs.Operators.{same_type, type_of, bits_of}
 use Rattle.spec_execution.specs.Reduction.{Next, Stuck, with_number}
 
 same_self : (t : ValType) → same_type t t ≡ true

@@ -4,9 +4,9 @@ use Rattle.wtypes.specs.declared.Value.{Value}
 use Rattle.wtypes.specs.declared.Value.TheVariants as value
 use Rattle.wtypes.specs.declared.TrapCode.{TrapCode}
 use Rattle.wtypes.specs.declared.TrapCode.TheVariants as trap
-use Rattle.spec_syntax.specs.Syntax.{Instr, Plain, BrTable, Block, Loop, If, Instrs, nothing}
-use Rattle.spec_syntax.specs.Shape.{instr_preorder, instr_at}
-use Rattle.spec_syntax.specs.Profile.{frame_limit}
+use Rattle.spec_modules.specs.Syntax.{Instr, Plain, BrTable, Block, Loop, If, Instrs, nothing}
+use Rattle.spec_modules.specs.Shape.{instr_preorder, instr_at}
+use Rattle.spec_modules.specs.Profile.{frame_limit}
 use Rattle.spec_ledger.specs.declared.Reply.{Reply}
 use Rattle.spec_ledger.specs.declared.Reply.TheVariants as reply
 use Rattle.spec_ledger.specs.declared.TraceStep.{TraceStep}

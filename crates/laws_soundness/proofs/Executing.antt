@@ -9,11 +9,11 @@ use Rattle.wtypes.specs.declared.TrapCode.{TrapCode}
 use Rattle.wtypes.specs.declared.TrapCode.TheVariants as trap
 use Rattle.wtypes.specs.declared.PlainInstr.{PlainInstr}
 use Rattle.wtypes.specs.declared.PlainInstr.TheVariants.{Unreachable, Nop, Br, BrIf, Return, Call, CallIndirect, Drop, Select, LocalGet, LocalSet, LocalTee, GlobalGet, GlobalSet, Load, Store, MemorySize, MemoryGrow, Const, Unary, Binary, Test, Compare, Convert}
-use Rattle.spec_syntax.specs.Syntax.{Instr, Plain, BrTable, Block, Loop, If, Instrs, nothing, seq, FuncType, GlobalType}
-use Rattle.spec_syntax.specs.Shape.{size}
-use Rattle.spec_numeric.specs.Operators.{same_type, type_of, bits_of, value_of, truth, unary_type, binary_type, test_type, compare_type, convert_from, convert_to}
-use Rattle.spec_numeric.specs.Storage.{load_type, load_width, extended, store_type, store_width}
-use Rattle.spec_numeric.specs.Memory.{load, store}
+use Rattle.spec_modules.specs.Syntax.{Instr, Plain, BrTable, Block, Loop, If, Instrs, nothing, seq, FuncType, GlobalType}
+use Rattle.spec_modules.specs.Shape.{size}
+use Rattle.spec_modules.specs.Operators.{same_type, type_of, bits_of, value_of, truth, unary_type, binary_type, test_type, compare_type, convert_from, convert_to}
+use Rattle.spec_modules.specs.Storage.{load_type, load_width, extended, store_type, store_width}
+use Rattle.spec_modules.specs.Memory.{load, store}
 use Rattle.spec_typing.specs.Typing.{PlainTyped, InstrTyped, Typed, of}
 use Rattle.spec_typing.specs.Modules.{type_at, func_type_indices, globals}
 use Rattle.spec_execution.specs.Configuration.{Deployed, Contract, Function, function_at, function_type, Seq, End, Val, Free, Label, Invoke, code, values, State, instr_size}

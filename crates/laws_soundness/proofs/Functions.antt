@@ -5,8 +5,8 @@ use Rattle.std.specs.Prelude.{filter_map, option_map, option_and_then}
 use Rattle.std.proofs.lemmas.Bool.{lt-ltb, le-ltb}
 use Rattle.wtypes.specs.declared.ValType.{ValType}
 use Rattle.wtypes.specs.declared.HostCall.{HostCall}
-use Rattle.spec_syntax.specs.Profile.{host_type}
-use Rattle.spec_syntax.specs.Syntax.{ImportDesc, Import, FuncType, Func}
+use Rattle.spec_modules.specs.Profile.{host_type}
+use Rattle.spec_modules.specs.Syntax.{ImportDesc, Import, FuncType, Func}
 use Rattle.spec_typing.specs.Typing.{Typed, of}
 use Rattle.spec_typing.specs.Modules.{func_of, global_of, func_type_indices, type_at, result_of, spaces_of, context_of, BodyTyped}
 use Rattle.spec_typing.specs.Linking.{Resolves, IsLinked}

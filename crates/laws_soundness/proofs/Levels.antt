@@ -5,13 +5,13 @@ use Rattle.wtypes.specs.declared.ValType.TheVariants.{I64}
 use Rattle.wtypes.specs.declared.Value.{Value}
 use Rattle.wtypes.specs.declared.Value.TheVariants as value
 use Rattle.wtypes.specs.declared.TrapCode.{TrapCode}
-use Rattle.spec_syntax.specs.Syntax.{FuncType, Func, ExportDesc, ExportFunc, ExportTable, ExportMemory, ExportGlobal}
+use Rattle.spec_modules.specs.Syntax.{FuncType, Func, ExportDesc, ExportFunc, ExportTable, ExportMemory, ExportGlobal}
 use Rattle.spec_ledger.specs.declared.Op.{Op}
 use Rattle.spec_ledger.specs.declared.Reply.{Reply}
 use Rattle.spec_ledger.specs.declared.Reply.TheVariants as reply
 use Rattle.spec_ledger.specs.declared.TraceStep.{TraceStep}
 use Rattle.spec_ledger.specs.declared.TraceStep.TheVariants.{Kept, Dropped}
-use Rattle.spec_numeric.specs.Operators.{same_type}
+use Rattle.spec_modules.specs.Operators.{same_type}
 use Rattle.spec_typing.specs.Linking.{IsLinked}
 use Rattle.spec_execution.specs.Configuration.{Setting, Deployed, Contract, Function, Hosted, Defined, function_at, function_type, Seq, End, Invoke, arguments, State, Config, Running, Trap}
 use Rattle.spec_execution.specs.Reduction.{Of, Ask, Answer, Next, Goes, Traps, Asks, Branches, Returns, Ended, Stuck, same_types, same_function_type}

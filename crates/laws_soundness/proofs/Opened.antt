@@ -2,7 +2,7 @@
 use Rattle.std.proofs.Common.{◌≡◌, ℕ, Bool, true, false, cond, ◌==◌, List, subst, Option, Some, None, length, slice_get}
 use Rattle.wtypes.specs.declared.Value.{Value}
 use Rattle.spec_ledger.specs.declared.Version.{Version}
-use Rattle.spec_syntax.specs.Syntax.{ExportDesc, ExportFunc, ExportTable, ExportMemory, ExportGlobal}
+use Rattle.spec_modules.specs.Syntax.{ExportDesc, ExportFunc, ExportTable, ExportMemory, ExportGlobal}
 use Rattle.spec_typing.specs.Linking.{IsLinked}
 use Rattle.spec_execution.specs.Configuration.{Deployed, Contract, Function, Hosted, Defined, function_at}
 use Rattle.spec_execution.specs.Run.{ContractCall, Refused, Opens, exported, wrong_argument, by_wrong, by_function, by_export, by_contract}

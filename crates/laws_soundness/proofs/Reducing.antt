@@ -7,11 +7,11 @@ use Rattle.wtypes.specs.declared.ValType.TheVariants.{I32, I64}
 use Rattle.wtypes.specs.declared.Value.{Value}
 use Rattle.wtypes.specs.declared.HostCall.{HostCall}
 use Rattle.wtypes.specs.declared.HostCall.TheVariants as host
-use Rattle.spec_syntax.specs.Profile.{host_type, frame_limit}
-use Rattle.spec_syntax.specs.Syntax.{Instrs, nothing, seq, FuncType, Func}
+use Rattle.spec_modules.specs.Profile.{host_type, frame_limit}
+use Rattle.spec_modules.specs.Syntax.{Instrs, nothing, seq, FuncType, Func}
 use Rattle.spec_ledger.specs.declared.Reply.{Reply}
 use Rattle.spec_ledger.specs.declared.Reply.TheVariants as reply
-use Rattle.spec_numeric.specs.Operators.{type_of}
+use Rattle.spec_modules.specs.Operators.{type_of}
 use Rattle.spec_typing.specs.Typing.{Typed, of}
 use Rattle.spec_typing.specs.Modules.{result_of}
 use Rattle.spec_typing.specs.Linking.{IsLinked}

@@ -1,42 +1,19 @@
 -- A call of linked contracts has a run over any cells: by the fuel that is left, and then by the weight of the levels.
-use Rattle.std.proofs.Common.{◌≡◌, ℕ, zero, suc, ◌+◌, ◌<◌, ◌≤◌, Bool, true, false, cond, nat_le, List, [], ◌∷◌, ◌++◌, refl, sym, subst, arith, pos, is_some, append-nil, append_assoc, replicate}
+use Rattle.std.proofs.Common.{◌≡◌, ℕ, zero, suc, ◌+◌, ◌<◌, ◌≤◌, Bool, true, false, nat_le, List, [], ◌∷◌, ◌++◌, refl, sym, subst, arith, append-nil, append_assoc, replicate}
 use Rattle.std.proofs.lemmas.Bool.Decides.{nat_tests}
-use Rattle.std.proofs.lemmas.Int.{ints}
-use Rattle.std.specs.Prelude.{FitsSigned}
-use Rattle.std.specs.Int.{cast_signed, w32, w64}
-use Rattle.std.specs.FinMap.{get}
 use Rattle.spec_ledger.specs.declared.Op.{Op}
-use Rattle.spec_ledger.specs.declared.Op.TheVariants.{Get, Has, Put, Del, Add, Total}
-use Rattle.spec_ledger.specs.declared.Reply.{Reply}
 use Rattle.spec_ledger.specs.declared.TraceStep.{TraceStep}
 use Rattle.spec_ledger.specs.declared.TraceStep.TheVariants.{Did, Dropped}
 use Rattle.spec_ledger.specs.declared.Outcome.{Outcome}
 use Rattle.spec_ledger.specs.declared.Outcome.TheVariants.{OutOfFuel}
-use Rattle.spec_ledger.specs.Cells.{Cells, number, reply_to, map_at, counter_at}
+use Rattle.spec_ledger.specs.Cells.{Cells, reply_to}
 use Rattle.spec_ledger.specs.Book.{after, GetsReplies}
 use Rattle.spec_ledger.proofs.Traces.{GetsReplies-push, GetsReplies-mark}
 use Rattle.spec_execution.specs.Configuration.{Setting}
-use Rattle.spec_execution.specs.Run.{IsReply, to_get, to_has, to_put, to_del, to_add, to_total}
 use Rattle.spec_execution.specs.Levels.{Level, Levels, Move, On, Host, Over, Nowhere, move, IsChargedMove, Reached, at_first, moved, replied, closing, Ends, over, exhausted, IsRun, IsSafe}
+use Rattle.spec_execution.proofs.Replies.{reply_fits}
 use Rattle.laws_soundness.proofs.Weighing.{Charge, one_unit, free}
 use Rattle.laws_soundness.proofs.Descending.{levels_weight, Lighter, move_lighter}
-
--- ---- a reply from the cells is one that the operation may get
-
-fits : (n : ℕ) → FitsSigned w64 (cast_signed w64 n)
-fits n = omega (arith, ints)
-
-one_or_none : (b : Bool) → FitsSigned w32 (cond b (pos 1) (pos 0))
-one_or_none true = omega (arith, ints)
-one_or_none false = omega (arith, ints)
-
-reply_fits : (op : Op) (cells : Cells) → IsReply op (reply_to op cells)
-reply_fits (Get p) cells = to_get p _ (fits (number (get cells (map_at p))))
-reply_fits (Has p) cells = to_has p _ (one_or_none (is_some (get cells (map_at p))))
-reply_fits (Put p v) cells = to_put p v
-reply_fits (Del p) cells = to_del p _ (one_or_none (is_some (get cells (map_at p))))
-reply_fits (Add p v) cells = to_add p v
-reply_fits (Total p) cells = to_total p _ (fits (number (get cells (counter_at p))))
 
 -- one reply more
 push : (trace : List TraceStep) (op : Op) (cells : Cells) → GetsReplies trace cells → GetsReplies (trace ++ Did op (reply_to op (after trace cells)) ∷ []) cells

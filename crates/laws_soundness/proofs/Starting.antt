@@ -8,12 +8,12 @@ use Rattle.wtypes.specs.declared.ValType.{ValType}
 use Rattle.wtypes.specs.declared.Value.{Value}
 use Rattle.wtypes.specs.declared.PlainInstr.TheVariants.{Const, GlobalGet}
 use Rattle.spec_ledger.specs.declared.Version.{Version}
-use Rattle.spec_syntax.specs.Syntax.{Plain, Instrs, nothing, seq, FuncType, Func, Global, GlobalType, Element, ExportDesc, ExportFunc, ExportTable, ExportMemory, ExportGlobal}
-use Rattle.spec_numeric.specs.Operators.{type_of, same_type}
+use Rattle.spec_modules.specs.Syntax.{Plain, Instrs, nothing, seq, FuncType, Func, Global, GlobalType, Element, ExportDesc, ExportFunc, ExportTable, ExportMemory, ExportGlobal}
+use Rattle.spec_modules.specs.Operators.{type_of, same_type}
 use Rattle.spec_typing.specs.Modules.{IsConstant, GlobalTyped, imported_globals, globals, func_type_indices}
 use Rattle.spec_typing.specs.Modules as modules
 use Rattle.spec_typing.specs.Linking.{IsLinked}
-use Rattle.spec_numeric.specs.Memory.{written}
+use Rattle.spec_modules.specs.Memory.{written}
 use Rattle.spec_execution.specs.Configuration.{Deployed, Contract, Function, Hosted, Defined, function_at, Seq, End, Invoke, arguments, constant, size_of, with_elements, fresh}
 use Rattle.spec_execution.specs.Run.{ContractCall, Refused, Opens, exported, wrong_argument, by_wrong, by_function, by_export, by_contract, after_start}
 use Rattle.laws_soundness.specs.Typed.{types, outermost, ElementTyped, StateTyped, SeqTyped}

@@ -1,8 +1,8 @@
 -- Which instruction of the code a sequence reduces by, and its place.
 use Rattle.std.specs.Prelude.{◌≡◌, ℕ, List, [], ◌∷◌, Option, Some, None}
 use Rattle.wtypes.specs.declared.Value.{Value}
-use Rattle.spec_syntax.specs.Syntax.{Instr, Instrs}
-use Rattle.spec_syntax.specs.Shape.{instr_at}
+use Rattle.spec_modules.specs.Syntax.{Instr, Instrs}
+use Rattle.spec_modules.specs.Shape.{instr_at}
 use Rattle.spec_ledger.specs.declared.TraceStep.{TraceStep}
 use Rattle.spec_execution.specs.Configuration.{Setting, Contract, Seq, Val, Code, Label, Frame, State, Running}
 use Rattle.spec_execution.specs.Reduction.{Next, execute, in_label, in_frame}

@@ -3,9 +3,9 @@ use Rattle.std.specs.Prelude.{◌≡◌, ℕ, ℤ, Bool, true, false, List, [], 
 use Rattle.wtypes.specs.declared.ValType.{ValType}
 use Rattle.wtypes.specs.declared.ValType.TheVariants.{I64}
 use Rattle.wtypes.specs.declared.Value.{Value}
-use Rattle.spec_syntax.specs.Syntax.{Module}
+use Rattle.spec_modules.specs.Syntax.{Module}
 use Rattle.spec_ledger.specs.declared.Reply.{Reply}
-use Rattle.spec_numeric.specs.Operators.{type_of}
+use Rattle.spec_modules.specs.Operators.{type_of}
 use Rattle.spec_typing.specs.Typing.{Context, InstrTyped, Typed, of}
 use Rattle.spec_typing.specs.Modules.{spaces_of, type_at, globals}
 use Rattle.spec_typing.specs.Linking.{IsLinked}

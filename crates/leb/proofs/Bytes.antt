@@ -2,7 +2,7 @@
 use Rattle.leb.specs.Signs.{signed_part, low_bits}
 use Rattle.std.proofs.Common.{Bool, true, false, ◌≡◌, ℕ, zero, suc, ◌+◌, ◌-◌, ◌/◌, ◌%◌, ◌<◌, ◌≤◌, List, [], ◌∷◌, ◌++◌, sym, ap, ◌∙◌, arith, append_assoc}
 use Rattle.std.proofs.lemmas.Bool.{le-ltb, lt-ltb}
-use Rattle.spec_binary.specs.Shortest.{unsigned_bytes, signed_bytes}
+use Rattle.spec_modules.specs.Shortest.{unsigned_bytes, signed_bytes}
 
 pub bytes_more : (more n : ℕ) → 0 < more → 128 ≤ n → unsigned_bytes more n ≡ (n % 128 + 128) ∷ unsigned_bytes (more - 1) (n / 128)
 bytes_more zero n lt le = absurd (omega arith)

@@ -1,9 +1,9 @@
 -- A spelling at a place in bytes.
 use Rattle.std.proofs.Common.{◌≡◌, ℕ, zero, suc, [], ◌∷◌, refl, ◌+◌, ◌-◌, ◌<◌, ◌≤◌, List, ◌++◌, length, take, drop, slice_range, ℤ, sym, ap, subst, ◌∙◌, arith, length-append, length-drop}
 use Rattle.std.proofs.Math.Seq.{take-append_seam}
-use Rattle.spec_binary.specs.Language.{Language}
-use Rattle.spec_binary.specs.Leb.{unsigned, signed}
-use Rattle.spec_binary.specs.NumberLaws.{Found}
+use Rattle.spec_modules.specs.Language.{Language}
+use Rattle.spec_modules.specs.Leb.{unsigned, signed}
+use Rattle.spec_modules.specs.NumberLaws.{Found}
 
 pub found_at : {X : Type 0} (F : X → Language) (bytes rest : List ℕ) (at : ℕ) (x : X) → at ≤ length bytes → Found F (drop at bytes) x rest → length rest < length (drop at bytes)
     → (at < length bytes - length rest) × (length bytes - length rest ≤ length bytes) × F x (slice_range bytes at (length bytes - length rest))

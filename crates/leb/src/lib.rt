@@ -2,15 +2,15 @@
 #![tactic(auto)]
 
 ghost use Rattle.std.specs.Prelude.{◌≡◌, ℕ, ◌+◌, ◌-◌, ◌<◌, ◌≤◌, ◌^◌, List, ◌++◌, drop, take, slice_range, option_map, length, IfSome, IfNone, OnOk, OnErr, ◌*◌, ℤ, pos, neg_ℤ, ◌≤ℤ◌, ◌<ℤ◌};
-ghost use Rattle.spec_binary.specs.Leb.{u32, s32, s64};
-ghost use Rattle.spec_binary.specs.Shortest.{unsigned_bytes, signed_bytes, u32_bytes, s32_bytes, s64_bytes};
+ghost use Rattle.spec_modules.specs.Leb.{u32, s32, s64};
+ghost use Rattle.spec_modules.specs.Shortest.{unsigned_bytes, signed_bytes, u32_bytes, s32_bytes, s64_bytes};
 ghost use Rattle.leb.specs.Signs.{signed_part, low_bits};
-ghost use Rattle.spec_binary.specs.Reading.{unsigned_at, signed_at};
+ghost use Rattle.spec_modules.specs.Reading.{unsigned_at, signed_at};
 
 use std::alloc::{AllocError, Allocator};
 
 // The unsigned number of so many bits at the front, and the bytes after it.
-#[tactic(auto, unfolding(spec_binary::specs::Reading::unsigned_at))]
+#[tactic(auto, unfolding(spec_modules::specs::Reading::unsigned_at))]
 fn unsigned_of(bytes: &[u8], bits: u32) -> Option<(u64, &[u8])>
     requires { bits ≤ 64 }
     ensures value { option_map (λ r. (r.0, r.1.now)) result ≡ unsigned_at bits bytes.now }
@@ -36,7 +36,7 @@ fn unsigned_of(bytes: &[u8], bits: u32) -> Option<(u64, &[u8])>
 }
 
 // The signed number of so many bits at the front, and the bytes after it.
-#[tactic(auto, unfolding(spec_binary::specs::Reading::signed_at))]
+#[tactic(auto, unfolding(spec_modules::specs::Reading::signed_at))]
 fn signed_of(bytes: &[u8], bits: u32) -> Option<(i64, &[u8])>
     requires { (1 ≤ bits) × (bits ≤ 64) }
     ensures value { option_map (λ r. (r.0, r.1.now)) result ≡ signed_at bits bytes.now }

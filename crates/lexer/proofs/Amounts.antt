@@ -7,7 +7,8 @@ use Rattle.spec_text.specs.Numbers.{Decimal, decimal_end, decimal_digit, decimal
 use Rattle.lexer.specs.Reading.{hex_value, digit_test}
 use Rattle.lexer.specs.Values.{base, value_at, magnitude_at, capped, bits_at}
 use Rattle.lexer.proofs.Spellings.{chosen}
-use Rattle.lexer.proofs.Decoding.{digit_is_hex, hex_from_test}
+use Rattle.lexer.proofs.StringReading.{digit_from_test}
+use Rattle.lexer.proofs.Decoding.{digit_is_hex}
 
 none_some : (n : ℕ) → None ≡ Some n → ⊥
 none_some n e = cc
@@ -62,7 +63,7 @@ read_is_hexadecimal (b ∷ bs) before n e =
     elim (chosen (b == 95) (value_at true before bs) _ (Some n) e) [
       | inl h ↦ subst (λ (x : ℕ). Hexadecimal before (x ∷ bs) n) (sym (eqb-true b 95 h.0)) (hexadecimal_apart (read_is_hexadecimal bs before n h.1))
       | inr h ↦ elim (chosen (is_hex b) (value_at true (16 * before + hex_value b) bs) None (Some n) h.1) [
-        | inl d ↦ hexadecimal_digit (hex_from_test b d.0) (read_is_hexadecimal bs (16 * before + hex_value b) n d.1)
+        | inl d ↦ hexadecimal_digit (digit_from_test b d.0) (read_is_hexadecimal bs (16 * before + hex_value b) n d.1)
         | inr d ↦ absurd (none_some n d.1)
       ]
     ]

@@ -1,70 +1,17 @@
 -- A string between its quotes, read byte by byte and in the grammar.
-use Rattle.std.proofs.Common.{◌≡◌, ℕ, ◌+◌, ◌*◌, ◌<◌, ◌≤◌, min, Bool, true, false, ◌&&◌, ◌||◌, cond, List, [], ◌∷◌, ◌++◌, refl, sym, ap, ◌∙◌, arith, subst, inl, inr}
-use Rattle.std.specs.Prelude.{◌==◌, ◌%◌, nat_le, nat_lt, encode_utf8}
+use Rattle.std.proofs.Common.{◌≡◌, ℕ, ◌+◌, ◌*◌, ◌<◌, ◌≤◌, min, true, false, ◌||◌, List, [], ◌∷◌, ◌++◌, refl, sym, ap, ◌∙◌, arith, inl, inr}
+use Rattle.std.specs.Prelude.{◌==◌, ◌%◌, nat_le, encode_utf8}
 use Rattle.std.specs.Char.{InScalarRange}
-use Rattle.std.proofs.lemmas.Bool.{cond-false, cond-true, leb-true, lt-leb, and_parts, and_from, le-leb, lt-ltb, or_parts, or_cases, or_left, or_right, agree_below_at, ne_eqb}
-use Rattle.spec_text.specs.Lexical.{is_digit, is_hex, is_plain, HexDigit, digit, lower, upper, ShortEscape, tab, newline, return, double_quote, quote, backslash, HexNumber, whole, more, StringBody, nothing, plain, short, byte, scalar}
+use Rattle.std.proofs.lemmas.Bool.{cond-false, cond-true, and_parts, or_parts, ne_eqb}
+use Rattle.spec_text.specs.Lexical.{is_hex, is_plain, HexDigit, ShortEscape, tab, newline, return, double_quote, quote, backslash, HexNumber, whole, more, StringBody, nothing, plain, short, byte, scalar}
 use Rattle.lexer.specs.Reading.{hex_value, is_short, is_scalar}
 use Rattle.lexer.specs.declared.strings.InString.{InString}
 use Rattle.lexer.specs.declared.strings.InString.TheVariants.{Plain, Slash, Second, Digits}
+use Rattle.lexer.proofs.StringReading.{not_true, hex_is_apart, digit_test, digit_small, range_test}
 use Rattle.lexer.specs.Strings.{nibble, next_state, bytes_at, decode, decoded}
 
 false_true : false ≡ true → ⊥
 false_true e = cc
-
-abbrev implies : Bool → Bool → Bool
-implies a b = cond a b true
-
-use_implies : (a b : Bool) → implies a b ≡ true → a ≡ true → b ≡ true
-use_implies true b h e = h
-use_implies false b h e = absurd cc
-
-not_true : (a : Bool) → cond a false true ≡ true → a ≡ false
-not_true true e = absurd cc
-not_true false e = refl
-
--- no byte from 128 on is a hexadecimal digit
-hex_is_low : (b : ℕ) → is_hex b ≡ true → b < 128
-hex_is_low b h =
-    elim (or_cases (is_digit b || (nat_le 97 b && nat_le b 102)) (nat_le 65 b && nat_le b 70) h) [
-      | inl l ↦ elim (or_cases (is_digit b) (nat_le 97 b && nat_le b 102) l) [
-        | inl d ↦ omega (arith, leb-true b 57 (and_parts (nat_le 48 b) (nat_le b 57) d).1)
-        | inr e ↦ omega (arith, leb-true b 102 (and_parts (nat_le 97 b) (nat_le b 102) e).1)
-      ]
-      | inr u ↦ omega (arith, leb-true b 70 (and_parts (nat_le 65 b) (nat_le b 70) u).1)
-    ]
-
--- what each hexadecimal digit is not
-abbrev apart_from_hex : ℕ → Bool
-apart_from_hex b = implies (is_hex b) (cond ((is_short b || (b == 117)) || (b == 125)) false true)
-
-hex_is_apart : (b : ℕ) → is_hex b ≡ true → (is_short b ≡ false) × ((b == 117) ≡ false) × ((b == 125) ≡ false)
-hex_is_apart b h =
-    let e = use_implies (is_hex b) _ (agree_below_at apart_from_hex (λ _. true) 128 b refl (hex_is_low b h)) h in
-    let p = or_parts (is_short b || (b == 117)) (b == 125) (not_true _ e) in
-    let q = or_parts (is_short b) (b == 117) p.0 in
-    (q.0, q.1, p.1)
-
-digit_test : {b m : ℕ} → HexDigit b m → (is_hex b ≡ true) × (hex_value b ≡ m)
-digit_test (digit {b} h) = (
-  or_left (is_digit b || (nat_le 97 b && nat_le b 102)) (nat_le 65 b && nat_le b 70) (or_left (is_digit b) (nat_le 97 b && nat_le b 102) h),
-  cond-true (nat_le b 57) _ _ (and_parts (nat_le 48 b) (nat_le b 57) h).1,
-)
-digit_test (lower {b} h) =
-    let low = leb-true 97 b (and_parts (nat_le 97 b) (nat_le b 102) h).0 in (
-      or_left (is_digit b || (nat_le 97 b && nat_le b 102)) (nat_le 65 b && nat_le b 70) (or_right (is_digit b) (nat_le 97 b && nat_le b 102) h),
-      cond-false (nat_le b 57) _ _ (lt-leb b 57 (omega arith)) ∙ cond-false (nat_le b 70) _ _ (lt-leb b 70 (omega arith)),
-    )
-digit_test (upper {b} h) =
-    let low = leb-true 65 b (and_parts (nat_le 65 b) (nat_le b 70) h).0 in (
-      or_right (is_digit b || (nat_le 97 b && nat_le b 102)) (nat_le 65 b && nat_le b 70) h,
-      cond-false (nat_le b 57) _ _ (lt-leb b 57 (omega arith)) ∙ cond-true (nat_le b 70) _ _ (and_parts (nat_le 65 b) (nat_le b 70) h).1,
-    )
-
-digit_small : {b m : ℕ} → HexDigit b m → m < 16
-digit_small (digit {b} h) = omega (arith, leb-true b 57 (and_parts (nat_le 48 b) (nat_le b 57) h).1)
-digit_small (lower {b} h) = omega (arith, leb-true b 102 (and_parts (nat_le 97 b) (nat_le b 102) h).1)
-digit_small (upper {b} h) = omega (arith, leb-true b 70 (and_parts (nat_le 65 b) (nat_le b 70) h).1)
 
 digit_nibble : {b m : ℕ} → HexDigit b m → nibble b ≡ m
 digit_nibble {b} {m} d = let small = digit_small d in ap (λ n. n % 16) (digit_test d).1 ∙ omega arith
@@ -73,16 +20,6 @@ pub digit_is_hex : {b m : ℕ} → HexDigit b m → (is_hex b ≡ true) × (hex_
 digit_is_hex {b} d =
     let t = digit_test d in
     (t.0, t.1, ne_eqb b 95 (λ e. false_true (sym (ap is_hex e) ∙ t.0)))
-
-valued : {b m : ℕ} → HexDigit b m → HexDigit b (hex_value b)
-valued {b} d = subst (λ (n : ℕ). HexDigit b n) (sym (digit_test d).1) d
-
-pub hex_from_test : (b : ℕ) → is_hex b ≡ true → HexDigit b (hex_value b)
-hex_from_test b h =
-    elim (or_cases (is_digit b || (nat_le 97 b && nat_le b 102)) (nat_le 65 b && nat_le b 70) h) [
-      | inl l ↦ elim (or_cases (is_digit b) (nat_le 97 b && nat_le b 102) l) [ inl d ↦ valued (digit {b = b} d) | inr e ↦ valued (lower {b = b} e) ]
-      | inr u ↦ valued (upper {b = b} u)
-    ]
 
 -- ---- one byte
 
@@ -122,10 +59,6 @@ digit_on before b m bs d l =
 below : (n : ℕ) → InScalarRange n → n < 1114112
 below n (inl l) = omega arith
 below n (inr r) = omega (arith, r.1)
-
-range_test : (n : ℕ) → InScalarRange n → is_scalar n ≡ true
-range_test n (inl l) = or_left (nat_lt n 55296) _ (lt-ltb n 55296 l)
-range_test n (inr r) = or_right (nat_lt n 55296) _ (and_from (nat_le 57344 n) (nat_lt n 1114112) (le-leb 57344 n r.0) (lt-ltb n 1114112 (omega (arith, r.1))))
 
 digits_on : {k n : ℕ} {digits : List ℕ} → HexNumber k digits n → InScalarRange n → (body : List ℕ) → decode (Digits k) (digits ++ 125 ∷ body) ≡ encode_utf8 n ++ decode Plain body
 digits_on (whole {n}) r body = ap (λ (xs : List ℕ). xs ++ decode Plain body) (cond-true (is_scalar n) (encode_utf8 n) [] (range_test n r))

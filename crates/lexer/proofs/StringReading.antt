@@ -40,14 +40,14 @@ hex_is_low b h =
 abbrev apart_from_hex : ℕ → Bool
 apart_from_hex b = implies (is_hex b) (cond ((is_short b || (b == 117)) || (b == 125)) false true)
 
-hex_is_apart : (b : ℕ) → is_hex b ≡ true → (is_short b ≡ false) × ((b == 117) ≡ false) × ((b == 125) ≡ false)
+pub hex_is_apart : (b : ℕ) → is_hex b ≡ true → (is_short b ≡ false) × ((b == 117) ≡ false) × ((b == 125) ≡ false)
 hex_is_apart b h =
     let e = use_implies (is_hex b) _ (agree_below_at apart_from_hex (λ _. true) 128 b refl (hex_is_low b h)) h in
     let p = or_parts (is_short b || (b == 117)) (b == 125) (not_true _ e) in
     let q = or_parts (is_short b) (b == 117) p.0 in
     (q.0, q.1, p.1)
 
-digit_test : {b m : ℕ} → HexDigit b m → (is_hex b ≡ true) × (hex_value b ≡ m)
+pub digit_test : {b m : ℕ} → HexDigit b m → (is_hex b ≡ true) × (hex_value b ≡ m)
 digit_test (digit {b} h) = (
   or_left (is_digit b || (nat_le 97 b && nat_le b 102)) (nat_le 65 b && nat_le b 70) (or_left (is_digit b) (nat_le 97 b && nat_le b 102) h),
   cond-true (nat_le b 57) _ _ (and_parts (nat_le 48 b) (nat_le b 57) h).1,
@@ -63,7 +63,7 @@ digit_test (upper {b} h) =
       cond-false (nat_le b 57) _ _ (lt-leb b 57 (omega arith)) ∙ cond-true (nat_le b 70) _ _ (and_parts (nat_le 65 b) (nat_le b 70) h).1,
     )
 
-digit_small : {b m : ℕ} → HexDigit b m → m < 16
+pub digit_small : {b m : ℕ} → HexDigit b m → m < 16
 digit_small (digit {b} h) = omega (arith, leb-true b 57 (and_parts (nat_le 48 b) (nat_le b 57) h).1)
 digit_small (lower {b} h) = omega (arith, leb-true b 102 (and_parts (nat_le 97 b) (nat_le b 102) h).1)
 digit_small (upper {b} h) = omega (arith, leb-true b 70 (and_parts (nat_le 65 b) (nat_le b 70) h).1)
@@ -71,7 +71,7 @@ digit_small (upper {b} h) = omega (arith, leb-true b 70 (and_parts (nat_le 65 b)
 valued : {b m : ℕ} → HexDigit b m → HexDigit b (hex_value b)
 valued {b} d = subst (λ (n : ℕ). HexDigit b n) (sym (digit_test d).1) d
 
-digit_from_test : (b : ℕ) → is_hex b ≡ true → HexDigit b (hex_value b)
+pub digit_from_test : (b : ℕ) → is_hex b ≡ true → HexDigit b (hex_value b)
 digit_from_test b h =
     elim (or_cases (is_digit b || (nat_le 97 b && nat_le b 102)) (nat_le 65 b && nat_le b 70) h) [
       | inl l ↦ elim (or_cases (is_digit b) (nat_le 97 b && nat_le b 102) l) [ inl d ↦ valued (digit {b = b} d) | inr e ↦ valued (lower {b = b} e) ]
@@ -117,7 +117,7 @@ held_low n l = omega arith
 held_more : (n d : ℕ) → min (16 * held n + d) 1114112 ≡ held (16 * n + d)
 held_more n d = omega arith
 
-range_test : (n : ℕ) → InScalarRange n → is_scalar n ≡ true
+pub range_test : (n : ℕ) → InScalarRange n → is_scalar n ≡ true
 range_test n (inl l) = or_left (nat_lt n 55296) _ (lt-ltb n 55296 l)
 range_test n (inr r) = or_right (nat_lt n 55296) _ (and_from (nat_le 57344 n) (nat_lt n 1114112) (le-leb 57344 n r.0) (lt-ltb n 1114112 (omega (arith, r.1))))
 

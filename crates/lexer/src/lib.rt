@@ -7,7 +7,6 @@ mod reading;
 mod refusal;
 mod states;
 mod strings;
-mod tables;
 mod word;
 mod words_reading;
 

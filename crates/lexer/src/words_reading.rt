@@ -8,10 +8,9 @@ ghost use Rattle.lexer.specs.WordsReading.{seen, left, behind, memarg_at, keywor
 ghost use Rattle.lexer.specs.WordsRefused.{IsRightly};
 
 use crate::refusal::TextRefusal;
-use crate::tables::{key_word, operator};
 use crate::word::{Piece, Word};
 use crate::{Token, integers_are_tested, is_integer};
-use spec_text::TokenKind;
+use spec_text::{TokenKind, key_word_named, operator_named};
 use std::alloc::Allocator;
 
 /// What stands before the integer of an offset, and of an alignment.
@@ -56,9 +55,9 @@ fn memory_argument(piece: Piece<'_>) -> Option<Word<'_>>
 fn keyword(piece: Piece<'_>) -> Option<Word<'_>>
     ensures { seen result ≡ keyword_at piece.entry.at piece.entry.text.now }
 {
-    if let Some(key) = key_word(piece.text) {
+    if let Some(key) = key_word_named(piece.text) {
         Some(Word::Key(key))
-    } else if let Some(op) = operator(piece.text) {
+    } else if let Some(op) = operator_named(piece.text) {
         Some(Word::Op(op))
     } else {
         memory_argument(piece)

@@ -3,7 +3,7 @@ use Rattle.std.proofs.Common.{◌≡◌, ◌<◌, ◌+◌, ℕ, List, [], ◌∷
 use Rattle.std.specs.List.{filter_map, cons_option}
 use Rattle.std.proofs.lemmas.List.{drop_more}
 use Rattle.wtypes.specs.declared.HostCall.{HostCall}
-use Rattle.spec_syntax.specs.Syntax as syntax
+use Rattle.spec_modules.specs.Syntax as syntax
 use Rattle.module_tree.specs.declared.module.Import.{Import}
 use Rattle.module_tree.specs.ModuleView.{import_view}
 

@@ -7,7 +7,7 @@ use Rattle.std.specs.Cmp.Lexicographic.{nat_list_eq_equiv}
 use Rattle.module_tree.specs.declared.module.Export.{Export}
 use Rattle.module_tree.specs.declared.module.ExportDesc.{ExportDesc}
 use Rattle.module_tree.specs.ModuleView.{export_view, export_desc_view}
-use Rattle.spec_syntax.specs.Syntax.{Name}
+use Rattle.spec_modules.specs.Syntax.{Name}
 use Rattle.spec_execution.specs.Run.{exported}
 use Rattle.link.specs.Exports.{AreExports}
 

@@ -7,9 +7,9 @@ use Rattle.std.proofs.lemmas.List.Elements.{All-head, All-tail}
 use Rattle.wtypes.specs.declared.ValType.{ValType}
 use Rattle.wtypes.specs.declared.HostCall.{HostCall}
 use Rattle.wtypes.specs.declared.HostCall.TheVariants.{Get, Has, Put, Del, Add, Total, Ask, Answer}
-use Rattle.spec_syntax.specs.Syntax.{FuncType, Name, Import, ImportDesc, ImportFunc, ImportTable, ImportMemory, ImportGlobal, Module}
-use Rattle.spec_syntax.specs.Profile.{host_module, host_name, host_type}
-use Rattle.spec_typing.specs.Principal.{same_type}
+use Rattle.spec_modules.specs.Syntax.{FuncType, Name, Import, ImportDesc, ImportFunc, ImportTable, ImportMemory, ImportGlobal, Module}
+use Rattle.spec_modules.specs.Profile.{host_module, host_name, host_type}
+use Rattle.spec_modules.specs.Operators.{same_type}
 use Rattle.spec_typing.specs.Linking.{Names, IsCall, Resolves}
 use Rattle.spec_typing.proofs.Sound.{same_type_eq, both}
 use Rattle.spec_typing.proofs.Complete.{same_type_of, join_true}

@@ -3,7 +3,7 @@ use Rattle.std.proofs.Common.{◌≡◌, ℕ, Option, Some, None, refl, sym, ap,
 use Rattle.wtypes.specs.declared.Value.TheVariants as value
 use Rattle.wtypes.specs.declared.PlainInstr.{PlainInstr}
 use Rattle.wtypes.specs.declared.PlainInstr.TheVariants.{Const}
-use Rattle.spec_syntax.specs.Syntax as syntax
+use Rattle.spec_modules.specs.Syntax as syntax
 use Rattle.spec_typing.specs.Linking.{offset_number}
 use Rattle.module_tree.specs.Readers.{lone_plain}
 

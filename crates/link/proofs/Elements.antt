@@ -9,12 +9,12 @@ use Rattle.module_tree.specs.declared.module.Module as tree
 use Rattle.module_tree.specs.declared.module.Element as tree_element
 use Rattle.module_tree.specs.ModuleView.{element_view, limits_view}
 use Rattle.module_tree.specs.Modules.{module_view}
-use Rattle.spec_syntax.specs.Syntax.{Limits, Element, Module}
-use Rattle.spec_syntax.specs.Profile.{element_limit}
-use Rattle.spec_numeric.specs.Operators.{bits_of}
+use Rattle.spec_modules.specs.Syntax.{Limits, Element, Module}
+use Rattle.spec_modules.specs.Profile.{element_limit}
+use Rattle.spec_modules.specs.Operators.{bits_of}
 use Rattle.spec_typing.specs.Modules.{tables, table_of}
 use Rattle.spec_typing.specs.Linking.{IsLinked, InTable, InRange}
-use Rattle.spec_numeric.specs.Memory.{written}
+use Rattle.spec_modules.specs.Memory.{written}
 use Rattle.spec_execution.specs.Configuration.{constant, size_of, with_elements, fresh}
 use Rattle.link.proofs.Laying.{none_else, all_at_map, only_one, const_number, all_left}
 

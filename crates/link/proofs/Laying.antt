@@ -15,10 +15,10 @@ use mathlib.Core.Path.{fun_ext}
 use Rattle.wtypes.specs.declared.Value.TheVariants as value
 use Rattle.wtypes.specs.declared.HostCall.{HostCall}
 use Rattle.wtypes.specs.declared.PlainInstr.TheVariants.{Const}
-use Rattle.spec_syntax.specs.Syntax.{Plain, Instrs, nothing, seq, FuncType, Limits, Import, ImportDesc, ImportFunc, DataSegment, Module}
-use Rattle.spec_syntax.specs.Profile.{page_size, page_limit}
-use Rattle.spec_numeric.specs.Operators.{bits_of}
-use Rattle.spec_numeric.specs.Memory.{written}
+use Rattle.spec_modules.specs.Syntax.{Plain, Instrs, nothing, seq, FuncType, Limits, Import, ImportDesc, ImportFunc, DataSegment, Module}
+use Rattle.spec_modules.specs.Profile.{page_size, page_limit}
+use Rattle.spec_modules.specs.Operators.{bits_of}
+use Rattle.spec_modules.specs.Memory.{written}
 use Rattle.spec_typing.specs.Modules.{memories, memory_of}
 use Rattle.spec_typing.specs.Linking.{IsLinked, Resolves, InTable, InMemory, InRange, offset_number}
 use Rattle.spec_execution.specs.Configuration.{constant, size_of, with_datas, fresh}

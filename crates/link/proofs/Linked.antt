@@ -8,8 +8,8 @@ use Rattle.wtypes.specs.declared.ValType.TheVariants.{I32}
 use Rattle.wtypes.specs.declared.Value.TheVariants as value
 use Rattle.wtypes.specs.declared.HostCall.{HostCall}
 use Rattle.wtypes.specs.declared.PlainInstr.TheVariants.{GlobalGet, Const}
-use Rattle.spec_syntax.specs.Syntax.{Instrs, Plain, nothing, seq, Limits, Import, Element, DataSegment, Module}
-use Rattle.spec_syntax.specs.Profile.{page_size, page_limit, element_limit}
+use Rattle.spec_modules.specs.Syntax.{Instrs, Plain, nothing, seq, Limits, Import, Element, DataSegment, Module}
+use Rattle.spec_modules.specs.Profile.{page_size, page_limit, element_limit}
 use Rattle.spec_typing.specs.Modules.{table_of, memory_of, global_of, tables, memories, imported_globals, IsConstant, ElementTyped, DataTyped, ModuleTyped}
 use Rattle.spec_typing.specs.Linking.{Names, IsCall, InTable, InMemory, segments, offset_number, InRange, OutOfRange, IsFirstFault, UnknownImport, ImportType, SegmentRange, TooManyPages, TableTooLarge}
 use Rattle.spec_typing.proofs.Sound.{both}

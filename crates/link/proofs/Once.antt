@@ -1,8 +1,8 @@
 -- A module has one refusal.
 use Rattle.std.proofs.Common.{◌≡◌, ◌≢◌, ℕ, zero, suc, ◌<◌, ◌≤◌, List, [], ◌∷◌, Some, take, slice_get, refl, sym, ap, ◌∙◌, subst, arith}
 use Rattle.wtypes.specs.declared.HostCall.{HostCall}
-use Rattle.spec_syntax.specs.Profile.{page_limit}
-use Rattle.spec_syntax.specs.Syntax.{FuncType, Import, Module}
+use Rattle.spec_modules.specs.Profile.{page_limit}
+use Rattle.spec_modules.specs.Syntax.{FuncType, Import, Module}
 use Rattle.spec_typing.specs.Modules.{memories}
 use Rattle.spec_typing.specs.Linking.{Names, IsCall, IsFirstFault, InRange, segments}
 use Rattle.spec_typing.specs.Linking as linking

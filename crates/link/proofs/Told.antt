@@ -1,6 +1,6 @@
 -- A refusal of a segment says that it is out of range.
 use Rattle.std.proofs.Common.{◌≡◌, ℕ, List, [], ◌∷◌, map, length, refl, ap, suc}
-use Rattle.spec_syntax.specs.Syntax as syntax
+use Rattle.spec_modules.specs.Syntax as syntax
 use Rattle.spec_typing.specs.Linking as linking
 use Rattle.link.specs.declared.refusal.LinkRefusal.{LinkRefusal}
 use Rattle.link.specs.declared.refusal.LinkRefusal.TheVariants as refusal

@@ -4,8 +4,8 @@ use Rattle.wtypes.specs.declared.ValType.TheVariants.{I32}
 use Rattle.wtypes.specs.declared.Value.{Value}
 use Rattle.wtypes.specs.declared.PlainInstr.{PlainInstr}
 use Rattle.wtypes.specs.declared.PlainInstr.TheVariants.{Const}
-use Rattle.spec_syntax.specs.Syntax as syntax
-use Rattle.spec_numeric.specs.Operators.{value_of}
+use Rattle.spec_modules.specs.Syntax as syntax
+use Rattle.spec_modules.specs.Operators.{value_of}
 use Rattle.spec_execution.specs.Configuration.{constant}
 use Rattle.module_tree.specs.Readers.{lone_plain}
 

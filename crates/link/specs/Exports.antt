@@ -1,7 +1,7 @@
 -- What a module exports, by name.
 use Rattle.std.specs.Prelude.{◌≡◌, List, String, option_map}
 use Rattle.std.specs.BTreeMap.{BTreeMap, get_by_text}
-use Rattle.spec_syntax.specs.Syntax.{Name, Export}
+use Rattle.spec_modules.specs.Syntax.{Name, Export}
 use Rattle.spec_execution.specs.Run.{exported}
 use Rattle.module_tree.specs.declared.module.ExportDesc.{ExportDesc}
 use Rattle.module_tree.specs.ModuleView.{export_desc_view}

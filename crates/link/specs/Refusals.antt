@@ -1,8 +1,8 @@
 -- What a refusal says of a module.
 use Rattle.std.specs.Prelude.{◌≡◌, ◌≢◌, ◌≤◌, ℕ, List, All}
 use Rattle.wtypes.specs.declared.HostCall.{HostCall}
-use Rattle.spec_syntax.specs.Syntax as syntax
-use Rattle.spec_syntax.specs.Profile.{page_limit}
+use Rattle.spec_modules.specs.Syntax as syntax
+use Rattle.spec_modules.specs.Profile.{page_limit}
 use Rattle.spec_typing.specs.Modules.{memories}
 use Rattle.spec_typing.specs.Linking as linking
 use Rattle.link.specs.declared.refusal.LinkRefusal.{LinkRefusal}

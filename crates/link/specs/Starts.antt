@@ -1,6 +1,6 @@
 -- Data segments over the bytes of a memory.
 use Rattle.std.specs.Prelude.{◌≡◌, ℕ, ◌+◌, ◌<◌, ◌≤◌, List, Option, Some, None, All, length, slice_index, unwrap_or}
-use Rattle.spec_syntax.specs.Syntax.{DataSegment}
+use Rattle.spec_modules.specs.Syntax.{DataSegment}
 use Rattle.spec_typing.specs.Linking.{offset_number}
 use Rattle.spec_execution.specs.Configuration.{with_datas}
 

@@ -4,9 +4,9 @@ use Rattle.std.specs.Str.{bytes_eq}
 use Rattle.wtypes.specs.declared.ValType.{ValType}
 use Rattle.wtypes.specs.declared.HostCall.{HostCall}
 use Rattle.wtypes.specs.declared.HostCall.TheVariants.{Get, Has, Put, Del, Add, Total, Ask, Answer}
-use Rattle.spec_syntax.specs.Syntax.{FuncType, Limits, Name, Import, ImportDesc, ImportFunc, ImportTable, ImportMemory, ImportGlobal, Element, DataSegment, Module}
-use Rattle.spec_syntax.specs.Profile.{page_size, page_limit, element_limit, host_module, host_name, host_type}
-use Rattle.spec_typing.specs.Principal.{same_type}
+use Rattle.spec_modules.specs.Syntax.{FuncType, Limits, Name, Import, ImportDesc, ImportFunc, ImportTable, ImportMemory, ImportGlobal, Element, DataSegment, Module}
+use Rattle.spec_modules.specs.Profile.{page_size, page_limit, element_limit, host_module, host_name, host_type}
+use Rattle.spec_modules.specs.Operators.{same_type}
 use Rattle.spec_typing.specs.Modules.{tables, memories}
 use Rattle.spec_typing.specs.Linking.{offset_number}
 

@@ -1,7 +1,7 @@
 // The linking of a module.
 
 ghost use Rattle.std.specs.Prelude.{◌≡◌, ℕ, ◌+◌, ◌*◌, ◌≤◌, true, None, is_none, length, IfSome, IfOk, IfErr};
-ghost use Rattle.spec_syntax.specs.Profile.{page_size};
+ghost use Rattle.spec_modules.specs.Profile.{page_size};
 ghost use Rattle.spec_execution.specs.Configuration.{size_of, fresh};
 ghost use Rattle.memory.specs.Start.{stands, first_bytes};
 ghost use Rattle.spec_typing.specs.Modules.{ModuleTyped};

@@ -1,6 +1,6 @@
 // Modules that can be instantiated.
 ghost use Rattle.std.specs.Prelude.{◌≡◌, ℕ, ◌*◌, ◌≤◌, None};
-ghost use Rattle.spec_syntax.specs.Profile.{page_size};
+ghost use Rattle.spec_modules.specs.Profile.{page_size};
 ghost use Rattle.spec_execution.specs.Configuration.{size_of, fresh};
 ghost use Rattle.memory.specs.Start.{stands, first_bytes};
 ghost use Rattle.spec_typing.specs.Linking.{IsLinked};

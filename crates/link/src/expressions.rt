@@ -1,8 +1,8 @@
 // The values of constant expressions.
 
 ghost use Rattle.std.specs.Prelude.{◌≡◌};
-ghost use Rattle.spec_syntax.specs.Syntax as syntax;
-ghost use Rattle.spec_numeric.specs.Operators.{bits_of};
+ghost use Rattle.spec_modules.specs.Syntax as syntax;
+ghost use Rattle.spec_modules.specs.Operators.{bits_of};
 ghost use Rattle.spec_execution.specs.Configuration.{constant};
 ghost use Rattle.module_tree.specs.View.{instrs_view};
 

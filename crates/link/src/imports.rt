@@ -2,13 +2,13 @@
 
 ghost use Rattle.std.specs.Prelude.{◌≡◌, ◌&&◌, ◌++◌, [], ◌<◌, length, map, IfOk, OnOk, IfSome, Some};
 ghost use Rattle.std.specs.List.{filter_map, cons_option};
-ghost use Rattle.spec_syntax.specs.Profile;
-ghost use Rattle.spec_typing.specs.Principal;
+ghost use Rattle.spec_modules.specs.Profile;
 ghost use Rattle.module_tree.specs.ModuleView.{func_type_view, import_desc_view, import_view};
 ghost use Rattle.link.specs.Tests;
 ghost use Rattle.link.specs.Tests.{first_fault, is_call};
 
 use module_tree::module::{Import, ImportDesc};
+use spec_modules::same_type;
 use std::alloc::{AllocError, Allocator};
 use wtypes::{FuncType, HostCall, ValType};
 
@@ -61,16 +61,6 @@ pub fn call_named<A: Allocator>(import: &Import<A>) -> Option<HostCall>
         named(import.name.as_str())
     } else {
         None
-    }
-}
-
-fn same_type(a: ValType, b: ValType) -> bool
-    ensures { result ≡ Principal.same_type a b }
-{
-    match (a, b) {
-        (ValType::I32, ValType::I32) => true,
-        (ValType::I64, ValType::I64) => true,
-        _ => false,
     }
 }
 

@@ -2,7 +2,7 @@
 
 ghost use Rattle.std.specs.Prelude.{◌≡◌, ◌+◌, nat_le, map, Some};
 ghost use Rattle.std.specs.List.{list_all};
-ghost use Rattle.spec_syntax.specs.Syntax as syntax;
+ghost use Rattle.spec_modules.specs.Syntax as syntax;
 ghost use Rattle.spec_typing.specs.Linking;
 ghost use Rattle.module_tree.specs.View.{instrs_view};
 ghost use Rattle.module_tree.specs.ModuleView.{limits_view, element_view, data_view};

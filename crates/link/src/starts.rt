@@ -1,7 +1,7 @@
 // The bytes that a memory begins with.
 
 ghost use Rattle.std.specs.Prelude.{◌≡◌, ℕ, ◌*◌, ◌≤◌, None, [], ◌∷◌, All, map, IfOk};
-ghost use Rattle.spec_syntax.specs.Profile.{page_size, page_limit};
+ghost use Rattle.spec_modules.specs.Profile.{page_size, page_limit};
 ghost use Rattle.spec_typing.specs.Linking.{IsLinked};
 ghost use Rattle.spec_execution.specs.Configuration.{size_of, fresh};
 ghost use Rattle.module_tree.specs.ModuleView.{data_view};

@@ -1,7 +1,7 @@
 // Tables.
 
 ghost use Rattle.std.specs.Prelude.{◌≡◌, ℕ, ◌≤◌, List, Option, Some, length, slice_get, IfOk, IfSome};
-ghost use Rattle.spec_syntax.specs.Profile.{element_limit};
+ghost use Rattle.spec_modules.specs.Profile.{element_limit};
 ghost use Rattle.link.specs.Table.{held, AreRising, elements_in};
 
 use std::alloc::{AllocError, Allocator};

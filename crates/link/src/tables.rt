@@ -3,7 +3,7 @@
 ghost use Rattle.std.specs.Prelude.{◌≡◌, ◌+◌, ◌≤◌, map, length, replicate, Some, None, IfOk};
 ghost use Rattle.module_tree.specs.ModuleView.{limits_view};
 ghost use Rattle.module_tree.specs.Modules.{module_view};
-ghost use Rattle.spec_numeric.specs.Memory.{written};
+ghost use Rattle.spec_modules.specs.Memory.{written};
 ghost use Rattle.spec_typing.specs.Linking.{IsLinked};
 ghost use Rattle.spec_execution.specs.Configuration.{size_of, fresh};
 

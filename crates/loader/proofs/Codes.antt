@@ -3,8 +3,8 @@ use Rattle.std.proofs.Common.{◌≡◌, ℕ, List, [], ◌∷◌, ◌++◌, len
 use Rattle.std.proofs.lemmas.List.{append-nil, nil_from_length}
 use Rattle.std.specs.Prelude.{option_map}
 use Rattle.wtypes.specs.declared.ValType.{ValType}
-use Rattle.spec_syntax.specs.Syntax.{Instrs, Func}
-use Rattle.spec_binary.specs.Reading.{Read}
+use Rattle.spec_modules.specs.Syntax.{Instrs, Func}
+use Rattle.spec_modules.specs.Reading.{Read}
 use Rattle.laws_modules.specs.ReadingModules.{inside_at, both_at, locals_at, init_at, code_at, codes_at}
 use Rattle.expr_reader.proofs.Steps.{front}
 use Rattle.loader.proofs.Fronts.{front_append}

@@ -1,7 +1,7 @@
 -- One more custom section.
 use Rattle.std.proofs.Common.{◌≡◌, ℕ, zero, suc, ◌-◌, ◌≤◌, false, List, [], ◌∷◌, length, Some, None, refl, sym, ap, ◌∙◌, arith}
 use Rattle.std.specs.Prelude.{◌==◌}
-use Rattle.spec_syntax.specs.Syntax.{Name}
+use Rattle.spec_modules.specs.Syntax.{Name}
 use Rattle.laws_modules.specs.ReadingModules.{sized_at, name_at, skip_at}
 
 pub skip_more : (n : ℕ) (rest after content following : List ℕ) (name : Name × List ℕ) → rest ≡ 0 ∷ after → length rest ≤ n

@@ -3,7 +3,7 @@ use Rattle.std.proofs.Common.{◌≡◌, ℕ, suc, true, List, [], ◌∷◌, re
 use Rattle.std.specs.Prelude.{slice_index_or}
 use Rattle.std.specs.List.{list_all}
 use Rattle.std.proofs.lemmas.Bool.{lt-ltb}
-use Rattle.spec_syntax.specs.Limits.{is_byte}
+use Rattle.spec_modules.specs.Limits.{is_byte}
 
 pub all_bytes : (bytes : List ℕ) → ((i : ℕ) → Fits w8 (slice_index_or bytes i 0)) → list_all is_byte bytes ≡ true
 all_bytes [] h = refl

@@ -4,7 +4,7 @@ use Rattle.std.proofs.lemmas.List.{append-nil}
 use Rattle.std.specs.Prelude.{option_map, nat_le}
 use Rattle.std.proofs.lemmas.Bool.{le-leb, lt-leb}
 use Rattle.wtypes.specs.declared.ValType.{ValType}
-use Rattle.spec_binary.specs.Reading.{Read}
+use Rattle.spec_modules.specs.Reading.{Read}
 use Rattle.laws_modules.specs.ReadingModules.{u32_at, value_type_at, runs_at}
 use Rattle.expr_reader.proofs.Steps.{front}
 use Rattle.loader.proofs.Fronts.{front_append}

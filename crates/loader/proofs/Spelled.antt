@@ -4,11 +4,11 @@ use Rattle.std.specs.Prelude.{nat_le}
 use Rattle.std.specs.List.{list_all}
 use Rattle.std.proofs.lemmas.Bool.{leb-true, le-leb}
 use Rattle.std.proofs.lemmas.Option.{none-some}
-use Rattle.spec_syntax.specs.Syntax.{Module}
-use Rattle.spec_syntax.specs.Profile.{byte_limit}
-use Rattle.spec_syntax.specs.Limits.{is_byte, module_fits}
-use Rattle.spec_binary.specs.Shortest.{shortest}
-use Rattle.spec_binary.specs.Spells.{Spells}
+use Rattle.spec_modules.specs.Syntax.{Module}
+use Rattle.spec_modules.specs.Profile.{byte_limit}
+use Rattle.spec_modules.specs.Limits.{is_byte, module_fits}
+use Rattle.spec_modules.specs.Shortest.{shortest}
+use Rattle.spec_modules.specs.Spells.{Spells}
 use Rattle.laws_modules.specs.ShortestBytes.{all_below}
 use Rattle.laws_modules.specs.ReadingModules.{module_at}
 use Rattle.laws_modules.specs.OneTree.{module_in, bodies_fit, globals_fit, elements_fit, datas_fit, module_takes, module_again}

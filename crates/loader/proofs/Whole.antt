@@ -1,8 +1,8 @@
 -- A module from its parts.
 use Rattle.std.proofs.Common.{◌≡◌, ℕ, Bool, true, false, List, [], ◌∷◌, length, Option, Some, None, refl, ap, ◌∙◌}
 use Rattle.std.specs.Prelude.{option_map, ◌==◌, if◌then◌else◌}
-use Rattle.spec_syntax.specs.Syntax.{FuncType, Limits, Import, Func, Global, Export, Element, DataSegment, Module}
-use Rattle.spec_binary.specs.Reading.{Read, ◌>>=◌}
+use Rattle.spec_modules.specs.Syntax.{FuncType, Limits, Import, Func, Global, Export, Element, DataSegment, Module}
+use Rattle.spec_modules.specs.Reading.{Read, ◌>>=◌}
 use Rattle.laws_modules.specs.ReadingModules.{if_empty, skip, slot_at, list_at, func_type_at, import_at, indices_at, table_type_at, limits_at, global_at, export_at, made_at, u32_at, element_at, entries_at, data_at, header_at, finished, module_at}
 use Rattle.loader.specs.Tail.{tail_at}
 

@@ -1,7 +1,7 @@
 -- Refusals.
 use Rattle.std.specs.Prelude.{ℕ, ◌≤◌, List, ⊤}
-use Rattle.spec_syntax.specs.Syntax.{Module}
-use Rattle.spec_binary.specs.Spells.{Spells}
+use Rattle.spec_modules.specs.Syntax.{Module}
+use Rattle.spec_modules.specs.Spells.{Spells}
 use Rattle.expr_reader.specs.declared.LoadRefusal.{LoadRefusal}
 use Rattle.expr_reader.specs.declared.LoadRefusal.TheVariants.{Malformed, Unsupported, TooLarge, NoMemory}
 

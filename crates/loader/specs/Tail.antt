@@ -1,7 +1,7 @@
 -- The end of a module.
 use Rattle.std.specs.Prelude.{ℕ, List, [], Option, None, length, ◌==◌, if◌then◌else◌}
-use Rattle.spec_syntax.specs.Syntax.{Func, DataSegment}
-use Rattle.spec_binary.specs.Reading.{◌>>=◌}
+use Rattle.spec_modules.specs.Syntax.{Func, DataSegment}
+use Rattle.spec_modules.specs.Reading.{◌>>=◌}
 use Rattle.laws_modules.specs.ReadingModules.{if_empty, slot_at, list_at, entries_at, data_at}
 
 -- the functions of these type indices and the data segments, behind which nothing is left

@@ -2,9 +2,9 @@
 ghost use Rattle.std.specs.Prelude.{◌≡◌, ℕ, ◌+◌, ◌<◌, ◌≤◌, ◌^◌, List, ◌++◌, [], map, replicate, true, length, IfOk, OnOk};
 ghost use Rattle.std.specs.List.{list_all};
 ghost use Rattle.wtypes.specs.declared.ValType.{ValType};
-ghost use Rattle.spec_syntax.specs.Syntax.{Instrs, Func};
-ghost use Rattle.spec_syntax.specs.Profile.{local_limit};
-ghost use Rattle.spec_syntax.specs.Limits.{counts_from};
+ghost use Rattle.spec_modules.specs.Syntax.{Instrs, Func};
+ghost use Rattle.spec_modules.specs.Profile.{local_limit};
+ghost use Rattle.spec_modules.specs.Limits.{counts_from};
 ghost use Rattle.expr_reader.specs.Outcome.{Gives};
 ghost use Rattle.laws_modules.specs.ReadingModules.{both_at, runs_at, locals_at, init_at, codes_at, entries_at, slot_at};
 ghost use Rattle.module_tree.specs.View.{instrs_view, ordinals};

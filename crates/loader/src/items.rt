@@ -2,8 +2,8 @@
 ghost use Rattle.std.specs.Prelude.{◌≡◌, ℕ, ◌<◌, ◌^◌, List, true, Option, Some, length, IfOk};
 ghost use Rattle.wtypes.specs.declared.ValType.{ValType};
 ghost use Rattle.expr_reader.specs.Outcome.{Gives};
-ghost use Rattle.spec_syntax.specs.Syntax as syntax;
-ghost use Rattle.spec_syntax.specs.Limits.{counts_from};
+ghost use Rattle.spec_modules.specs.Syntax as syntax;
+ghost use Rattle.spec_modules.specs.Limits.{counts_from};
 ghost use Rattle.laws_modules.specs.ReadingModules.{u32_at, sized_at, value_type_at, func_type_at, import_at, table_type_at, limits_at, init_at, global_at, export_at, element_at, data_at, indices_at, made_at};
 ghost use Rattle.module_tree.specs.View.{instrs_view, ordinals};
 ghost use Rattle.module_tree.specs.ModuleView.{func_type_view, limits_view, import_view, global_view, export_view, element_view, data_view, global_ordinals, element_ordinals, data_ordinals};

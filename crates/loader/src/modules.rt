@@ -1,12 +1,12 @@
 // A whole module.
 ghost use Rattle.std.specs.Prelude.{◌≡◌, ◌<◌, ◌≤◌, ◌^◌, map, true, length, Err, IfOk, IfErr};
 ghost use Rattle.std.specs.List.{list_all};
-ghost use Rattle.spec_syntax.specs.Limits.{counts_from};
-ghost use Rattle.spec_syntax.specs.Profile.{byte_limit};
+ghost use Rattle.spec_modules.specs.Limits.{counts_from};
+ghost use Rattle.spec_modules.specs.Profile.{byte_limit};
 ghost use Rattle.laws_modules.specs.ReadingModules.{header_at, module_at};
 ghost use Rattle.module_tree.specs.ModuleView.{func_view, data_view, func_ordinals, data_ordinals};
 ghost use Rattle.module_tree.specs.Modules.{module_view};
-ghost use Rattle.spec_binary.specs.Spells.{Spells};
+ghost use Rattle.spec_modules.specs.Spells.{Spells};
 ghost use Rattle.loader.specs.Refusals.{NoModule, IsWithin};
 ghost use Rattle.loader.specs.Tail.{tail_at};
 ghost use Rattle.expr_reader.specs.declared.LoadRefusal.TheVariants.{TooLarge};

@@ -2,7 +2,7 @@
 ghost use Rattle.std.specs.Prelude.{◌≡◌, ℕ, ◌<◌, ◌≤◌, ◌^◌, List, map, Bool, true, length, IfOk};
 ghost use Rattle.std.specs.List.{list_all};
 ghost use Rattle.expr_reader.specs.Outcome.{Gives};
-ghost use Rattle.spec_binary.specs.Reading.{Read};
+ghost use Rattle.spec_modules.specs.Reading.{Read};
 ghost use Rattle.laws_modules.specs.ReadingExpressions.{items_at, vector_at};
 
 use crate::values::u32_of;

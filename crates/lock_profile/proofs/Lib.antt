@@ -3,3 +3,4 @@ pub mod Orders
 pub mod Rises
 pub mod Dealt
 pub mod Steps
+pub mod Places

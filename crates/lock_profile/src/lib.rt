@@ -6,14 +6,15 @@ ghost use Rattle.std.specs.Prelude.{◌≡◌, ◌+◌, ◌<◌, ◌≤◌, ◌^
 ghost use Rattle.std.specs.Ordering.{is_lt};
 ghost use Rattle.std.specs.FinMap as finite;
 ghost use Rattle.spec_ledger.specs.Cells.{lock_cmp};
-ghost use Rattle.spec_ledger.specs.Modes.{goes_with};
 ghost use Rattle.lock_profile.specs.Turns.{AreTurns, IsProfile};
 ghost use Rattle.lock_profile.specs.Groups.{turn_next, pairs, is_below_next, is_next_above, group_there, entry_next, numbered, all_held, AllFit, turns_after, turns_from, with_turns};
 
 mod laws;
+mod lock_turn;
 
 pub use laws::neighbours_decide;
-use spec_ledger::{Entry, Lock, Mode};
+pub use lock_turn::{LockTurn, own_turn};
+use spec_ledger::{Entry, Lock, Mode, goes_with};
 use std::alloc::{Allocator, Global};
 use std::cmp::Ordering;
 use std::marker::Model;
@@ -122,6 +123,17 @@ impl<A: Allocator> Profile<A> {
     }
 }
 
+impl<A: Allocator + Copy> Profile<A> {
+    /// The same profile once more.
+    pub fn copy(&self, alloc: A) -> Result<Self, NoMemory>
+        ensures { IfOk result (λ copy. copy ≡ self.now) }
+    {
+        self.use_invariant();
+        let entries = Vec::from_slice(alloc, self.entries())?;
+        Ok(Profile { entries })
+    }
+}
+
 fn is_below(a: Lock, b: Lock) -> bool
     ensures { result ≡ is_lt (lock_cmp a b) }
 {
@@ -181,12 +193,6 @@ pub struct Group {
     pub turn: u32,
 }
 
-fn go_together(a: Mode, b: Mode) -> bool
-    ensures { result ≡ goes_with a b }
-{
-    matches!((a, b), (Mode::Read, Mode::Read) | (Mode::Add, Mode::Add))
-}
-
 /// A lock that a call of an order holds.
 #[derive(Clone, Copy, Debug, PartialEq, Eq)]
 pub struct Holder {
@@ -225,7 +231,7 @@ fn next_turn(last: Option<Group>, mode: Mode) -> u32
     match last {
         None => 0,
         Some(group) => {
-            if go_together(group.mode, mode) {
+            if goes_with(group.mode, mode) {
                 group.turn
             } else {
                 group.turn + 1

@@ -7,7 +7,7 @@ use Rattle.std.proofs.lemmas.List.Elements.{All-cons, All-head, All-tail, All-ma
 use Rattle.std.proofs.lemmas.List.FromFn.{length-map-range_with_len, get_or-map-range_with_len}
 use Rattle.std.proofs.lemmas.Option.{slice_get-map, slice_get_read}
 use mathlib.Core.Path.{fun_ext}
-use Rattle.spec_syntax.specs.Profile.{page_size}
+use Rattle.spec_modules.specs.Profile.{page_size}
 use Rattle.memory.specs.Pieces.{piece_size, byte_of, own_in, byte_in, bytes_in, contents, number_in, IsPiece, IsUnmade, IsSound}
 use Rattle.memory.proofs.Lists.{byte_at, length_bytes, none_there, behind, own_there, same_number}
 

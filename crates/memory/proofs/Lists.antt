@@ -10,9 +10,9 @@ use Rattle.std.proofs.lemmas.Bool.{cases_lt}
 use Rattle.std.specs.List.{range_with_len}
 use Rattle.std.proofs.Math.Nat.{pow-suc, pow-le-pow_right, div-div-eq-div-mul}
 use Rattle.std.proofs.lemmas.List.FromFn.{length-map-range_with_len, get_or-map-range_with_len}
-use Rattle.spec_syntax.specs.Profile.{page_size}
-use Rattle.spec_numeric.specs.Storage.{number_of_bytes, bytes_of_number}
-use Rattle.spec_numeric.specs.Memory.{written, load}
+use Rattle.spec_modules.specs.Profile.{page_size}
+use Rattle.spec_modules.specs.Storage.{number_of_bytes, bytes_of_number}
+use Rattle.spec_modules.specs.Memory.{written, load}
 use Rattle.memory.specs.Linear.{Memory, Grown, pages}
 use Rattle.std.specs.Int.{cast_signed, w32, w64, to_le_bytes, bytes_low_first, byte_at as le_byte}
 use Rattle.std.proofs.lemmas.Int.{to_z_pos}

@@ -10,7 +10,7 @@ use Rattle.std.proofs.lemmas.List.Elements.{All-nil, All-cons, All-head, All-tai
 use Rattle.std.proofs.lemmas.List.FromFn.{length-map-range_with_len, get_or-map-range_with_len}
 use Rattle.std.proofs.lemmas.Grind.{common_steps}
 use Rattle.std.proofs.lemmas.Option.{none-some, same_Some, slice_get_within, get_or_from_slice_get, slice_get-get_or, slice_get_past}
-use Rattle.spec_syntax.specs.Profile.{page_size, page_limit}
+use Rattle.spec_modules.specs.Profile.{page_size, page_limit}
 use Rattle.memory.specs.declared.start.Run.{Run}
 use Rattle.memory.specs.Runs.{begun, chosen, own_byte, run_of, end_of, has, place_in, standing, AreRuns, AreWithin, IsNext, IsPart, part_bytes, HasAdded}
 use Rattle.memory.specs.Pieces.{number_in}

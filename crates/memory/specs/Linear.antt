@@ -1,8 +1,8 @@
 -- Linear memory as contracts see it: one list of bytes, and a greatest number of pages (Core Specification, 4.2.8 Memory Instances; 4.4.4 Memory Instructions).
 use Rattle.std.specs.Prelude.{◌≡◌, ℕ, ◌+◌, ◌*◌, ◌/◌, ◌<◌, ◌≤◌, List, ◌++◌, length, replicate, Result, Ok, Err, ℤ, pos, negsuc}
 use Rattle.wtypes.specs.declared.TrapCode.TheVariants.{MemoryOutOfBounds}
-use Rattle.spec_syntax.specs.Profile.{page_size}
-use Rattle.spec_numeric.specs.Memory.{written}
+use Rattle.spec_modules.specs.Profile.{page_size}
+use Rattle.spec_modules.specs.Memory.{written}
 use Rattle.wtypes.specs.declared.NoMemory.{NoMemory}
 use Rattle.memory.specs.declared.StoreRefusal.{StoreRefusal}
 use Rattle.memory.specs.declared.StoreRefusal.TheVariants as refusal

@@ -1,7 +1,7 @@
 -- The bytes that a list of pieces stands for. Where a piece is not in the list, or has no bytes of its own, the byte is the one that the memory begins with.
 use Rattle.std.specs.Prelude.{◌≡◌, ℕ, ◌+◌, ◌*◌, ◌/◌, ◌%◌, ◌<◌, ◌≤◌, ◌⊎◌, Bool, true, false, List, length, map, slice_get, slice_index, Option, Some, None, MatchOption, unwrap_or, zero, suc, All, Vec, vec_len}
 use Rattle.std.specs.List.{range_with_len}
-use Rattle.spec_syntax.specs.Profile.{page_size, page_limit}
+use Rattle.spec_modules.specs.Profile.{page_size, page_limit}
 
 -- the bytes of a piece, 16 of which are a page
 abbrev pub piece_size : ℕ

@@ -1,7 +1,7 @@
 -- Runs of bytes in rising order of address, which do not meet. The bytes of all stand in one list.
 use Rattle.std.specs.Prelude.{◌≡◌, ℕ, ◌+◌, ◌-◌, ◌*◌, ◌<◌, ◌≤◌, Bool, true, false, ◌&&◌, nat_le, nat_lt, List, [], ◌∷◌, All, replicate, take, Option, Some, None, option_map, unwrap_or, slice_get, slice_index, drop}
 use Rattle.std.specs.Coded.{le_prop}
-use Rattle.spec_syntax.specs.Profile.{page_size, page_limit}
+use Rattle.spec_modules.specs.Profile.{page_size, page_limit}
 use Rattle.memory.specs.declared.start.Run.{Run}
 
 -- ---- Bytes that stand at some addresses

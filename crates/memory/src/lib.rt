@@ -5,9 +5,9 @@
 
 ghost use Rattle.std.specs.Prelude.{◌≡◌, ◌+◌, ◌*◌, ◌/◌, ◌%◌, ◌^◌, ◌<◌, ◌≤◌, ◌⊎◌, ◌++◌, ℕ, length, map, replicate, All, Option, None, Ok, IfOk, IfSome, IsErrOf, IsTrue, vec_len, ◌≢◌, slice_index, take, drop, option_copied};
 ghost use Rattle.std.specs.List.{range_with_len};
-ghost use Rattle.spec_syntax.specs.Profile.{page_size, page_limit};
-ghost use Rattle.spec_numeric.specs.Storage.{bytes_of_number};
-ghost use Rattle.spec_numeric.specs.Memory.{load, written};
+ghost use Rattle.spec_modules.specs.Profile.{page_size, page_limit};
+ghost use Rattle.spec_modules.specs.Storage.{bytes_of_number};
+ghost use Rattle.spec_modules.specs.Memory.{load, written};
 ghost use Rattle.memory.specs.Linear.{Memory, pages, Stored, Grown};
 ghost use Rattle.memory.specs.Pieces.{piece_size, own_in, byte_in, bytes_in, contents, IsPiece, IsMade, IsUnmade, IsSound, IsPut, HasPut, number_in};
 ghost use Rattle.memory.specs.Start.{stands, begins, first_bytes};

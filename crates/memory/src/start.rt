@@ -3,7 +3,7 @@
 ghost use Rattle.std.specs.Prelude.{◌≡◌, ℕ, ◌+◌, ◌*◌, ◌^◌, ◌<◌, ◌≤◌, ◌++◌, ◌∷◌, [], Option, Some, None, vec_len, length, map, slice_index, option_map, IfOk, OnOk, IfSome, IsTrue};
 ghost use Rattle.std.specs.List.{range_with_len};
 ghost use Rattle.std.specs.Option.{option_or};
-ghost use Rattle.spec_syntax.specs.Profile.{page_size, page_limit};
+ghost use Rattle.spec_modules.specs.Profile.{page_size, page_limit};
 ghost use Rattle.memory.specs.Runs.{begun, own_byte, run_of, end_of, place_in, AreRuns, AreRuns-prop, AreWithin, IsNext, IsPart, part_bytes, HasAdded};
 ghost use Rattle.memory.specs.Pieces.{number_in};
 

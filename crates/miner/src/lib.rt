@@ -3,6 +3,7 @@
 //! 2017, section 4: the miner). Who lists the calls orders the block.
 #![tactic(auto)]
 
+mod alone;
 mod list_order;
 mod mined_core;
 mod outcome;
@@ -16,6 +17,7 @@ ghost use Rattle.spec_block.specs.Worlds.{limits, order_of};
 ghost use Rattle.spec_block.specs.Headline.{Headline, IsLeft};
 ghost use Rattle.world.specs.Views.{world_view};
 
+pub use crate::alone::mine_alone;
 pub use crate::mined_core::{MinedCore, mine_core};
 use crate::sealing::build_block_by;
 use block::Block;

@@ -23,15 +23,15 @@ use storage::Cells;
 
 /// The numbers of the calls of a list, by whether they stand in its order.
 #[derive(Drop)]
-struct FirstFit<A: Allocator> {
+pub(crate) struct FirstFit<A: Allocator> {
     /// Those of the order, rising.
-    order: Vec<u32, A>,
+    pub(crate) order: Vec<u32, A>,
     /// The others, rising.
-    left: Vec<u32, A>,
+    pub(crate) left: Vec<u32, A>,
 }
 
 /// The order of a list of calls in a block of this fuel. Each call has its turn as it stands in the list, and joins where its limit is within the fuel that is left.
-fn first_fit<A: Allocator + Copy>(
+pub(crate) fn first_fit<A: Allocator + Copy>(
     alloc: A,
     calls: &[Call],
     fuel: u64,

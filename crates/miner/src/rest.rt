@@ -1,9 +1,9 @@
 // What the workers leave to the caller, and the room that they keep their work in.
 ghost use Rattle.std.specs.Prelude.{◌≡◌, length};
-ghost use Rattle.intake.specs.Intakes.{IsSeatOf};
+ghost use Rattle.book_workers.specs.Intakes.{IsSeatOf};
 
+use book_workers::{Intake, Seat};
 use call::Call;
-use intake::{Intake, Seat};
 use spec_ledger::NoMemory;
 use std::alloc::Allocator;
 use std::sync::Wait;

@@ -11,11 +11,11 @@ ghost use Rattle.world.specs.Views.{world_view};
 use block::{Block, Position, digest_calls};
 use call::Call;
 use lock_profile::Touched;
-use serial::{Core, copied, positions_of};
+use serial::{Core, positions_of};
 use spec_ledger::{Receipt, Version};
 use std::alloc::Allocator;
 use std::thread::{Threads, join};
-use world::{World, digest_world};
+use world::{World, copied, digest_world};
 use wtypes::NoMemory;
 
 /// SHA-256 of what a block is made of.
@@ -131,7 +131,7 @@ fn digests_and_parts<R: Threads + Sync, A: Allocator + Copy + Send + Sync>(
 }
 
 /// The block of this version of calls that ran in this order in a world, came to `core` and used so much fuel, and the world after them, as
-/// [`serial_block::build_block`] makes them, by at most three threads, and at most so many as there are workers.
+/// [`serial_block::build_block`] makes them, by at most three threads, and at most so many as there are workers. The world after them keeps its digest.
 pub(crate) fn build_block_by<R: Threads + Sync, A: Allocator + Copy + Send + Sync>(
     rt: &R,
     alloc: A,
@@ -169,7 +169,7 @@ pub(crate) fn build_block_by<R: Threads + Sync, A: Allocator + Copy + Send + Syn
         fuel,
         told.after,
     ) {
-        Some(block) => Ok((block, next)),
+        Some(block) => Ok((block, next.with_digest(told.after))),
         None => unreachable!(),
     }
 }

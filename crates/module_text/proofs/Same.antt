@@ -2,9 +2,9 @@
 use Rattle.std.proofs.Common.{◌≡◌, ◌↔◌, IsTrue, ℕ, Bool, List, sym, ap, subst, ◌∙◌}
 use Rattle.std.specs.Str.{bytes_eq}
 use Rattle.std.proofs.lemmas.Slice.Eq.{bytes_eq-Decides}
-use Rattle.spec_syntax.specs.Syntax.{Module}
-use Rattle.spec_binary.specs.Spells.{Spells}
-use Rattle.spec_binary.specs.Shortest.{shortest}
+use Rattle.spec_modules.specs.Syntax.{Module}
+use Rattle.spec_modules.specs.Spells.{Spells}
+use Rattle.spec_modules.specs.Shortest.{shortest}
 
 pub same_spelling : ((bytes : List ℕ) (m n : Module) → Spells bytes m → Spells bytes n → m ≡ n) → (m n : Module) (xs ys : List ℕ) (r : Bool) → xs ≡ shortest m → ys ≡ shortest n
     → Spells (shortest m) m → Spells (shortest n) n → r ≡ bytes_eq xs ys → IsTrue r ↔ (m ≡ n)

@@ -1,6 +1,6 @@
 -- Texts that were judged.
 use Rattle.std.specs.Prelude.{string_bytes}
-use Rattle.spec_syntax.specs.Syntax.{Module}
+use Rattle.spec_modules.specs.Syntax.{Module}
 use Rattle.spec_text.specs.Names.{Names}
 use Rattle.module_text.specs.declared.judge.Judged.{Judged}
 use Rattle.module_text.specs.declared.judge.Judged.TheVariants.{Named, Unnamed}

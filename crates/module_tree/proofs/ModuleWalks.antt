@@ -1,8 +1,8 @@
 -- The parts of a module, as far as a loop has come.
 use Rattle.std.proofs.Common.{◌≡◌, ℕ, ◌+◌, ◌<◌, ◌≤◌, max, List, length, get_or, drop, map, sym, ap, ◌∙◌, arith}
 use Rattle.std.proofs.lemmas.List.{drop_more}
-use Rattle.spec_syntax.specs.Syntax as syntax
-use Rattle.spec_syntax.specs.Shape.{instrs_depth}
+use Rattle.spec_modules.specs.Syntax as syntax
+use Rattle.spec_modules.specs.Shape.{instrs_depth}
 use Rattle.module_tree.specs.declared.module.Func.{Func}
 use Rattle.module_tree.specs.declared.module.Import.{Import}
 use Rattle.module_tree.specs.View.{instrs_view}

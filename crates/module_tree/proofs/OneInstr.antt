@@ -2,7 +2,7 @@
 use Rattle.std.proofs.Common.{◌≡◌, ◌≢◌, ℕ, List, [], ◌∷◌, Option, None, Vec, length, get_or, refl, sym, ap, ◌∙◌, arith, rules}
 use Rattle.wtypes.specs.declared.ValType.{ValType}
 use Rattle.wtypes.specs.declared.PlainInstr.{PlainInstr}
-use Rattle.spec_syntax.specs.Syntax as syntax
+use Rattle.spec_modules.specs.Syntax as syntax
 use Rattle.module_tree.specs.declared.instr.Instr.{Instr, the_lemmas}
 use Rattle.module_tree.specs.declared.instr.Instr as tree
 use Rattle.module_tree.specs.View.{instr_view, instrs_view}

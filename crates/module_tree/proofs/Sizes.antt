@@ -3,11 +3,11 @@ use Rattle.std.proofs.Common.{◌≡◌, ℕ, zero, suc, ◌-◌, ◌^◌, ◌<�
 use Rattle.std.specs.Prelude.{slice_get}
 use Rattle.std.specs.List.{list_all}
 use Rattle.std.proofs.lemmas.Bool.{leb-true, cases_lt, lt-ltb, le-ltb}
-use Rattle.spec_syntax.specs.Syntax.{Instr, Plain, BrTable, Block, Loop, If, Instrs, nothing, seq, Func, Module}
-use Rattle.spec_syntax.specs.Shape.{instr_preorder, preorder, instrs_depth}
-use Rattle.spec_syntax.specs.Limits.{func_fits, expression_fits, module_fits, module_fits-means, first, second}
-use Rattle.spec_syntax.specs.Profile.{byte_limit, nesting_limit}
-use Rattle.spec_binary.specs.Shortest.{shortest, instr_bytes, instrs_bytes, closing_bytes, run_bytes, vector_bytes, u32_bytes, code_bytes, list_section_bytes}
+use Rattle.spec_modules.specs.Syntax.{Instr, Plain, BrTable, Block, Loop, If, Instrs, nothing, seq, Func, Module}
+use Rattle.spec_modules.specs.Shape.{instr_preorder, preorder, instrs_depth}
+use Rattle.spec_modules.specs.Limits.{func_fits, expression_fits, module_fits, module_fits-means, first, second}
+use Rattle.spec_modules.specs.Profile.{byte_limit, nesting_limit}
+use Rattle.spec_modules.specs.Shortest.{shortest, instr_bytes, instrs_bytes, closing_bytes, run_bytes, vector_bytes, u32_bytes, code_bytes, list_section_bytes}
 use Rattle.module_tree.specs.Readers.{deepest, imported_funcs, defined_func}
 
 closing_size : (a : List ℕ) (e : Instrs) → length (preorder e) ≤ length a → length (preorder e) ≤ length (closing_bytes a e)

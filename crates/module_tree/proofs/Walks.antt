@@ -2,8 +2,8 @@
 use Rattle.std.proofs.Common.{◌≡◌, ℕ, zero, suc, ◌+◌, ◌-◌, ◌<◌, max, List, [], ◌∷◌, ◌++◌, length, get_or, take, drop, map, Option, Some, refl, sym, ap, ◌∙◌, arith, rules, Vec, append_assoc, length-append}
 use Rattle.std.specs.Prelude.{slice_get}
 use Rattle.std.proofs.lemmas.List.{drop_more, take_more, map-append, take-append-drop}
-use Rattle.spec_syntax.specs.Syntax as syntax
-use Rattle.spec_syntax.specs.Shape.{instr_preorder, preorder, instr_depth, instrs_depth}
+use Rattle.spec_modules.specs.Syntax as syntax
+use Rattle.spec_modules.specs.Shape.{instr_preorder, preorder, instr_depth, instrs_depth}
 use Rattle.wtypes.specs.declared.ValType.{ValType}
 use Rattle.module_tree.specs.declared.instr.Instr.{Instr, If, the_lemmas}
 use Rattle.module_tree.specs.View.{join, instr_view, instrs_view, instr_ordinals, ordinals}

@@ -3,8 +3,8 @@ use Rattle.std.specs.Prelude.{ℕ, List, map, Option, Bool, ◌&&◌, string_byt
 use Rattle.std.specs.List.{list_all}
 use Rattle.wtypes.specs.declared.FuncType.{FuncType}
 use Rattle.wtypes.specs.declared.Limits.{Limits}
-use Rattle.spec_syntax.specs.Syntax as syntax
-use Rattle.spec_syntax.specs.Limits.{counts_from}
+use Rattle.spec_modules.specs.Syntax as syntax
+use Rattle.spec_modules.specs.Limits.{counts_from}
 use Rattle.module_tree.specs.declared.module.GlobalType.{GlobalType}
 use Rattle.module_tree.specs.declared.module.ImportDesc.{ImportDesc}
 use Rattle.module_tree.specs.declared.module.ImportDesc.TheVariants as import_desc

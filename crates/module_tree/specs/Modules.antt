@@ -1,5 +1,5 @@
 -- The abstract syntax that a module in memory stands for.
-use Rattle.spec_syntax.specs.Syntax as syntax
+use Rattle.spec_modules.specs.Syntax as syntax
 use Rattle.module_tree.specs.declared.module.Module.{Module}
 use Rattle.module_tree.specs.ModuleView.{module_of}
 

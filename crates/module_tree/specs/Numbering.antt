@@ -1,9 +1,11 @@
 -- Ordinals that rise by one.
-use Rattle.std.proofs.Common.{◌≡◌, ℕ, zero, suc, ◌+◌, ◌-◌, ◌≤◌, List, [], ◌∷◌, ◌++◌, map, refl, sym, ap, ap₂, ◌∙◌, arith, rules, append_assoc, Option, Vec}
+use Rattle.std.proofs.Common.{true, ◌≡◌, ℕ, zero, suc, ◌+◌, ◌-◌, ◌≤◌, List, [], ◌∷◌, ◌++◌, map, refl, sym, ap, ap₂, ◌∙◌, arith, rules, append_assoc, Option, Vec}
 use Rattle.std.specs.List.{range_with_len}
+use Rattle.spec_modules.specs.Limits.{counts_from}
+use Rattle.std.proofs.lemmas.Bool.{eq-eqb}
 use Rattle.std.proofs.lemmas.List.{map-append}
 use Rattle.wtypes.specs.declared.ValType.{ValType}
-use Rattle.module_tree.specs.declared.instr.Instr.{Instr, Block, If, the_lemmas}
+use Rattle.module_tree.specs.declared.instr.Instr.{Instr, Block, Loop, If, the_lemmas}
 use Rattle.module_tree.specs.View.{join, instr_ordinals, ordinals}
 
 -- from the first to the one before the second
@@ -55,14 +57,28 @@ numbered_push a b c vs ws v p q e =
 pub ordinals_Block : {A : Type 0} (n : ℕ) (r : Option ValType) (b : Vec (Instr A) A) → instr_ordinals (Block n r b) ≡ n ∷ ordinals b.items
 ordinals_Block n r b = search (rules, the_lemmas)
 
+pub ordinals_Loop : {A : Type 0} (n : ℕ) (r : Option ValType) (b : Vec (Instr A) A) → instr_ordinals (Loop n r b) ≡ n ∷ ordinals b.items
+ordinals_Loop n r b = search (rules, the_lemmas)
+
 pub ordinals_If : {A : Type 0} (n : ℕ) (r : Option ValType) (t e : Vec (Instr A) A) → instr_ordinals (If n r t e) ≡ n ∷ (ordinals t.items ++ ordinals e.items)
 ordinals_If n r t e = search (rules, the_lemmas)
 
 pub numbered_Block : {A : Type 0} (n m : ℕ) (r : Option ValType) (b : Vec (Instr A) A) → Numbered (n + 1) m (ordinals b.items) → Numbered n m (instr_ordinals (Block n r b))
 numbered_Block n m r b p = let q = numbered_under n m (ordinals b.items) p in (q.0, ordinals_Block n r b ∙ q.1)
 
+pub numbered_Loop : {A : Type 0} (n m : ℕ) (r : Option ValType) (b : Vec (Instr A) A) → Numbered (n + 1) m (ordinals b.items) → Numbered n m (instr_ordinals (Loop n r b))
+numbered_Loop n m r b p = let q = numbered_under n m (ordinals b.items) p in (q.0, ordinals_Loop n r b ∙ q.1)
+
 pub numbered_If : {A : Type 0} (n k m : ℕ) (r : Option ValType) (t e : Vec (Instr A) A) → Numbered (n + 1) k (ordinals t.items) → Numbered k m (ordinals e.items) → Numbered n m (instr_ordinals (If n r t e))
 numbered_If n k m r t e p q =
     let j = numbered_join (n + 1) k m (ordinals t.items) (ordinals e.items) p q in
     let u = numbered_under n m (ordinals t.items ++ ordinals e.items) j in
     (u.0, ordinals_If n r t e ∙ u.1)
+
+counts : (n m : ℕ) → counts_from n (range_with_len n m) ≡ true
+counts n zero = refl
+counts n (suc m) = rw (eq-eqb n n refl) (counts (n + 1) m)
+
+-- so they count from the first
+pub numbered_counts : (from to : ℕ) (ns : List ℕ) → Numbered from to ns → counts_from from ns ≡ true
+numbered_counts from to ns p = ap (counts_from from) p.1 ∙ counts from (to - from)

@@ -1,8 +1,8 @@
 -- What is read off a module.
 use Rattle.std.specs.Prelude.{ℕ, ◌+◌, ◌-◌, max, List, [], ◌∷◌, nat_lt, if◌then◌else◌, Option, Some, None, slice_get}
 use Rattle.wtypes.specs.declared.PlainInstr.{PlainInstr}
-use Rattle.spec_syntax.specs.Syntax.{Instrs, Plain, nothing, seq, ImportDesc, ImportFunc, ImportTable, ImportMemory, ImportGlobal, Import, Func, Module}
-use Rattle.spec_syntax.specs.Shape.{instrs_depth}
+use Rattle.spec_modules.specs.Syntax.{Instrs, Plain, nothing, seq, ImportDesc, ImportFunc, ImportTable, ImportMemory, ImportGlobal, Import, Func, Module}
+use Rattle.spec_modules.specs.Shape.{instrs_depth}
 
 -- the deepest level in a body, 0 without one
 abbrev pub deepest : List Func → ℕ

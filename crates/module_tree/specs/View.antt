@@ -1,6 +1,6 @@
 -- The abstract syntax that a tree in memory stands for, and the ordinals that its nodes carry.
 use Rattle.std.specs.Prelude.{ℕ, List, [], ◌∷◌, ◌++◌, map}
-use Rattle.spec_syntax.specs.Syntax as syntax
+use Rattle.spec_modules.specs.Syntax as syntax
 use Rattle.module_tree.specs.declared.instr.Instr.{Instr, fold-Instr}
 use Rattle.module_tree.specs.declared.instr.Instr.TheOpen.{Instr-F}
 

@@ -1,6 +1,6 @@
 // The limits of the profile on modules.
 ghost use Rattle.std.specs.Prelude.{◌≡◌, ◌≤◌};
-ghost use Rattle.spec_syntax.specs.Profile.{byte_limit, function_limit, local_limit, nesting_limit, label_limit};
+ghost use Rattle.spec_modules.specs.Profile.{byte_limit, function_limit, local_limit, nesting_limit, label_limit};
 ghost use Rattle.module_tree.specs.LimitNumbers.{number_of};
 
 use std::fmt;

@@ -1,8 +1,8 @@
 // Modules (Core Specification, 2.5 Modules).
 ghost use Rattle.std.specs.Prelude.{◌≡◌, true, length, nat_le};
-ghost use Rattle.spec_syntax.specs.Limits.{module_fits};
-ghost use Rattle.spec_syntax.specs.Profile.{byte_limit};
-ghost use Rattle.spec_binary.specs.Shortest.{shortest};
+ghost use Rattle.spec_modules.specs.Limits.{module_fits};
+ghost use Rattle.spec_modules.specs.Profile.{byte_limit};
+ghost use Rattle.spec_modules.specs.Shortest.{shortest};
 ghost use Rattle.module_tree.specs.ModuleView.{module_of, are_numbered};
 
 use crate::instr::Instr;

@@ -1,6 +1,6 @@
 // A module under another allocator.
 ghost use Rattle.std.specs.Prelude.{◌≡◌, ℕ, List, [], map, IfOk, string_bytes};
-ghost use Rattle.spec_syntax.specs.Syntax as syntax;
+ghost use Rattle.spec_modules.specs.Syntax as syntax;
 ghost use Rattle.module_tree.specs.View.{instrs_view, ordinals};
 ghost use Rattle.module_tree.specs.ModuleView.{func_type_view, import_view, func_view, global_view, export_view, element_view, data_view, func_ordinals, global_ordinals, element_ordinals, data_ordinals};
 

@@ -1,7 +1,7 @@
 // What is read off a tree: depth, size, and the instruction at an ordinal.
 
 ghost use Rattle.std.specs.Prelude.{◌≡◌, ◌+◌, ◌<◌, ◌^◌, length, slice_get, Some, None, MatchResult, MatchOption, IfSome};
-ghost use Rattle.spec_syntax.specs.Shape.{instr_depth, instrs_depth, instr_preorder, preorder, instr_at};
+ghost use Rattle.spec_modules.specs.Shape.{instr_depth, instrs_depth, instr_preorder, preorder, instr_at};
 ghost use Rattle.module_tree.specs.View.{instr_view, instrs_view, instr_ordinals, ordinals, ordinal_of};
 
 use crate::instr::Instr;

@@ -1,7 +1,7 @@
 // What is read off a module.
 ghost use Rattle.std.specs.Prelude.{◌≡◌, ◌<◌, ◌+◌, true, length, slice_get, Some, None, IsSome, IfSome, MatchOption, option_map, option_and_then};
-ghost use Rattle.spec_syntax.specs.Shape.{size, instr_at};
-ghost use Rattle.spec_syntax.specs.Limits.{counts_from};
+ghost use Rattle.spec_modules.specs.Shape.{size, instr_at};
+ghost use Rattle.spec_modules.specs.Limits.{counts_from};
 ghost use Rattle.module_tree.specs.ModuleView.{import_desc_view};
 ghost use Rattle.module_tree.specs.Readers.{func_count};
 

@@ -1,6 +1,6 @@
 // How many bytes loads and stores touch.
 ghost use Rattle.std.specs.Prelude.{◌≡◌};
-ghost use Rattle.spec_numeric.specs.Storage;
+ghost use Rattle.spec_modules.specs.Storage;
 
 use wtypes::{LoadOp, StoreOp};
 

@@ -1,7 +1,7 @@
 //! The operators on numbers of 64 bits.
 ghost use Rattle.std.specs.Prelude.{◌≡◌};
 ghost use Rattle.std.specs.Int.{w64};
-ghost use Rattle.spec_numeric.specs.Operators.{unary, binary, div_signed, rem_signed, compare};
+ghost use Rattle.spec_modules.specs.Operators.{unary, binary, div_signed, rem_signed, compare};
 
 use wtypes::{BinOp, RelOp, TrapCode, UnOp};
 

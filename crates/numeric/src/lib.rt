@@ -3,7 +3,7 @@
 #![tactic(auto)]
 
 ghost use Rattle.std.specs.Prelude.{◌≡◌};
-ghost use Rattle.spec_numeric.specs.Operators.{type_of, unary_type, binary_type, test_type, compare_type, convert_from, unary_of, binary_of, test_of, compare_of, convert_of};
+ghost use Rattle.spec_modules.specs.Operators.{type_of, unary_type, binary_type, test_type, compare_type, convert_from, unary_of, binary_of, test_of, compare_of, convert_of};
 
 mod bits_32;
 mod bits_64;

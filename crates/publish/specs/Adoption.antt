@@ -4,8 +4,8 @@ use Rattle.spec_ledger.specs.Book.{CommittedCall}
 use Rattle.spec_ledger.specs.Modes.{Modes, touched}
 use Rattle.spec_execution.specs.Configuration.{Setting}
 use Rattle.spec_execution.specs.Run.{ContractCall}
-use Rattle.spec_execution.specs.Levels.{asks_in}
 use Rattle.spec_execution.specs.Serial.{CallResult}
+use Rattle.interp.specs.Played.{receipt_of}
 use Rattle.publish.specs.declared.adopting.CallRun.{CallRun}
 use Rattle.publish.specs.Publication.{HasRoom}
 
@@ -26,7 +26,7 @@ AreMade setting calls (r ∷ rs) (m ∷ ms) = IsMade setting calls r m × AreMad
 abbrev pub ran_by : {A : Type 0} → List (CallRun A) → List Modes → List CallResult
 ran_by [] ms = []
 ran_by (r ∷ rs) [] = []
-ran_by (r ∷ rs) (m ∷ ms) = record { receipt = record { outcome = r.finished.outcome; used = r.finished.used; asks = asks_in r.finished.trace }; touched = m } ∷ ran_by rs ms
+ran_by (r ∷ rs) (m ∷ ms) = record { receipt = receipt_of r.finished; touched = m } ∷ ran_by rs ms
 
 -- a run of the entry's call, with the entry's trace and outcome
 pub record IsRunOf {A : Type 0} (e : CommittedCall) (r : CallRun A) : Type 0 where

@@ -14,7 +14,7 @@ use call::Call;
 use interp::finished::Finished;
 use link::deployed::Deployed as Contract;
 use lock_profile::Touched;
-use spec_ledger::{NoMemory, Outcome, Receipt};
+use spec_ledger::{NoMemory, Outcome};
 use std::alloc::{Allocator, Global};
 use storage::Cells;
 
@@ -78,11 +78,7 @@ pub(crate) fn adopt_entries<'a, A: Allocator + Copy>(
         }
         run.finished.is_played();
         so_far.reserve_next()?;
-        let receipt = Receipt {
-            outcome: run.finished.outcome(),
-            used: run.finished.used(),
-            asks: run.finished.asks(),
-        };
+        let receipt = run.finished.receipt();
         so_far.note(run.call, limit, receipt);
     }
     so_far.touched = touched;

@@ -7,9 +7,10 @@ use rows_script::{Came, Fails, cut};
 use std::alloc::Global;
 use std::sync::Wait;
 use std::thread::Threads;
-use wblock_commands::{run_line, usage_text};
+use wblock_commands::run_line;
 use wblock_io::MemoryFiles;
 use wblock_line::Status;
+use wblock_usage::usage_text;
 
 /// How many bytes a stream takes at a time.
 const PIECE: usize = 3;

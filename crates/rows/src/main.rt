@@ -1,5 +1,5 @@
 //! Plays the rows of the files that the arguments name, over files in memory, and prints what comes out otherwise than they say, and how many rows
-//! each file has.
+//! each file has; or, behind the word `bench`, what it measures.
 #![tactic(auto)]
 
 mod answers;
@@ -10,6 +10,7 @@ mod words;
 
 use crate::answers::Libraries;
 use crate::lines::do_step;
+use bench::{USAGE, measured};
 use rows_script::Script;
 use std::alloc::Global;
 use std::str::from_utf8;
@@ -55,10 +56,39 @@ fn play<R: Threads + Wait + Sync>(
     )
 }
 
-fn main(rt: HostRuntime) -> io::Result<()> {
+/// Plays the rows of the files of these names. The second handle starts threads.
+fn play_all<R: Threads + Wait + Sync>(
+    rt: &HostRuntime,
+    threads: &R,
+    names: &[String],
+) -> io::Result<()> {
     let mut script = Script::new(rt.alloc());
-    for name in env::args(&rt)?.skip(1) {
-        play(&rt, &rt, &mut script, name.as_str())?;
+    for name in names {
+        play(rt, threads, &mut script, name.as_str())?;
     }
     Ok(())
+}
+
+/// The words behind `bench`, where that is the first one.
+fn asked_of_bench(words: &[String]) -> Option<&[String]> {
+    let (first, asked) = words.split_first()?;
+    if first.as_str() == "bench" {
+        Some(asked)
+    } else {
+        None
+    }
+}
+
+fn main(rt: HostRuntime) -> io::Result<()> {
+    let mut words = Vec::new(rt.alloc());
+    for word in env::args(&rt)?.skip(1) {
+        words.push(word)?;
+    }
+    let Some(asked) = asked_of_bench(&words) else {
+        return play_all(&rt, &rt, &words);
+    };
+    match measured(&rt, rt.alloc(), asked)? {
+        Some(line) => println!(rt; "{line}"),
+        None => println!(rt; "{USAGE}"),
+    }
 }

@@ -1,7 +1,7 @@
 //! Books of calls.
 
 use crate::acts::{Act, Did, event_of};
-use crate::put::{put_closed, put_steps};
+use crate::put::{put_closed, put_debug, put_steps};
 use crate::refused::Refused;
 use crate::scene::{Scene, scene_of};
 use crate::words::text_of;
@@ -82,21 +82,21 @@ fn put_begin_as(
 /// Puts the reply to an operation.
 fn put_done(out: &mut String, book: &mut Book, ticket: &Ticket, op: Op) -> Result<(), Refused> {
     let answer = book.op(ticket, op);
-    writeln!(out, "{answer:?}")?;
+    put_debug(out, &answer)?;
     Ok(())
 }
 
 /// Puts what is answered where a level is entered.
 fn put_entered(out: &mut String, book: &mut Book, ticket: &Ticket) -> Result<(), Refused> {
     let answer = book.enter(ticket);
-    writeln!(out, "{answer:?}")?;
+    put_debug(out, &answer)?;
     Ok(())
 }
 
 /// Puts what is answered where a level is left.
 fn put_left(out: &mut String, book: &mut Book, ticket: &Ticket, keep: bool) -> Result<(), Refused> {
     let answer = book.leave(ticket, keep);
-    writeln!(out, "{answer:?}")?;
+    put_debug(out, &answer)?;
     Ok(())
 }
 
@@ -104,11 +104,11 @@ fn put_left(out: &mut String, book: &mut Book, ticket: &Ticket, keep: bool) -> R
 fn put_trace(out: &mut String, book: &Book, ticket: &Ticket) -> Result<(), Refused> {
     match book.trace_of(ticket) {
         Some(steps) => {
-            write!(out, "did")?;
+            out.push_str("did")?;
             put_steps(out, " ", steps)?;
-            writeln!(out, "")?;
+            out.push('\n')?;
         }
-        None => writeln!(out, "none")?,
+        None => out.push_str("none\n")?,
     }
     Ok(())
 }
@@ -151,7 +151,7 @@ fn put_ended(
         Act::Undo(call) => match taken(hands, *call) {
             Some(ticket) => {
                 book.undo(ticket);
-                writeln!(out, "done")?;
+                out.push_str("done\n")?;
                 Ok(())
             }
             None => Err(Refused::Line),
@@ -164,7 +164,7 @@ fn put_ended(
                     Ok(())
                 }
                 Err(ticket) => {
-                    writeln!(out, "not ended")?;
+                    out.push_str("not ended\n")?;
                     give(hands, *call, ticket)
                 }
             },
@@ -173,11 +173,11 @@ fn put_ended(
         Act::Unbegin(call, count) => match taken(hands, *call) {
             Some(ticket) => match book.unbegin(ticket, *count) {
                 Ok(()) => {
-                    writeln!(out, "taken back")?;
+                    out.push_str("taken back\n")?;
                     Ok(())
                 }
                 Err(ticket) => {
-                    writeln!(out, "not taken back")?;
+                    out.push_str("not taken back\n")?;
                     give(hands, *call, ticket)
                 }
             },
@@ -219,12 +219,12 @@ fn put_answer(
         Act::BeginAs(call, number) => put_begin_as(out, book, hands, *call, *number),
         Act::Begun(call) => {
             let count = book.begun_of(*call);
-            writeln!(out, "{count:?}")?;
+            put_debug(out, &count)?;
             Ok(())
         }
         Act::Holds(lock) => {
             let cell = book.cell(*lock);
-            writeln!(out, "{cell:?}")?;
+            put_debug(out, &cell)?;
             Ok(())
         }
         Act::Undo(_) | Act::Commit(_, _) | Act::End(_, _) | Act::Unbegin(_, _) => {

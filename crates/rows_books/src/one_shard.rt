@@ -1,6 +1,7 @@
 //! One shard of a book.
 
 use crate::acts::keeps;
+use crate::put::put_debug;
 use crate::refused::Refused;
 use crate::words::{cut, long, op_of, outcome_of, short, steps_of, text_of};
 use sharding::Shard;
@@ -17,7 +18,7 @@ fn put_ended(
 ) -> Result<(), Refused> {
     let (outcome, position) = cut(rest);
     let answer = shard.end(call, number, outcome_of(outcome)?, short(position)?);
-    writeln!(out, "{answer:?}")?;
+    put_debug(out, &answer)?;
     Ok(())
 }
 
@@ -33,15 +34,15 @@ fn put_stepped(
     match word {
         "op" => {
             let answer = shard.op(call, number, op_of(rest)?);
-            writeln!(out, "{answer:?}")?;
+            put_debug(out, &answer)?;
         }
         "enter" => {
             let answer = shard.enter(call, number);
-            writeln!(out, "{answer:?}")?;
+            put_debug(out, &answer)?;
         }
         "leave" => {
             let answer = shard.leave(call, number, keeps(rest)?);
-            writeln!(out, "{answer:?}")?;
+            put_debug(out, &answer)?;
         }
         _ => return Err(Refused::Line),
     }
@@ -61,17 +62,18 @@ fn put_answer(
     let (number, rest) = cut(rest);
     let call = short(call)?;
     let number = long(number)?;
-    write!(out, "{line}: ")?;
+    out.push_str(line)?;
+    out.push_str(": ")?;
     match word {
         "look" => {
             let answer = shard.look(call, number, &steps_of(alloc, rest)?, 0, 1);
-            writeln!(out, "{answer:?}")?;
+            put_debug(out, &answer)?;
             Ok(())
         }
         "end" => put_ended(out, shard, call, number, rest),
         "undo" => {
             shard.undo(call, number);
-            writeln!(out, "done")?;
+            out.push_str("done\n")?;
             Ok(())
         }
         _ => put_stepped(out, shard, word, call, number, rest),

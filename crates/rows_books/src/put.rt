@@ -5,7 +5,13 @@ use boost::attempt::CommittedCall;
 use boost::book::Closed;
 use spec_ledger::{CellKey, Lock, Op, Reply, TraceStep};
 use std::alloc::AllocError;
+use std::fmt::Debug;
 use storage::Cells;
+
+/// Puts a line: an answer, as its `Debug` tells it. A macro is proved at each place with all that lives there, and a call in a fraction of the time.
+pub(crate) fn put_debug<T: Debug>(out: &mut String, answer: &T) -> Result<(), AllocError> {
+    writeln!(out, "{answer:?}")
+}
 
 /// Puts an operation on a place.
 fn put_at(out: &mut String, word: &str, place: CellKey) -> Result<(), AllocError> {
@@ -57,7 +63,7 @@ pub(crate) fn put_steps(
 ) -> Result<(), AllocError> {
     let mut before = first;
     for step in steps {
-        write!(out, "{before}")?;
+        out.push_str(before)?;
         put_step(out, *step)?;
         before = ", ";
     }
@@ -81,7 +87,7 @@ fn put_entry(out: &mut String, entry: &CommittedCall, locks: &[Lock]) -> Result<
     let outcome = entry.outcome();
     write!(out, "entry {} {outcome:?}", entry.call())?;
     put_steps(out, " ", entry.trace())?;
-    writeln!(out, "")?;
+    out.push('\n')?;
     for lock in locks {
         let mode = entry.mode(*lock);
         writeln!(

@@ -2,6 +2,7 @@
 
 ghost use Rattle.std.specs.Prelude.{◌≡◌, length};
 
+use crate::put::put_debug;
 use crate::refused::Refused;
 use crate::words::{cut, lock_of, mode_of, short, text_of};
 use abstract_locks::Table;
@@ -18,7 +19,7 @@ fn put_taken(out: &mut String, table: &mut Table, call: u32, rest: &str) -> Resu
         return Err(Refused::Line);
     }
     let answer = table.take(call, lock, mode);
-    writeln!(out, "{answer:?}")?;
+    put_debug(out, &answer)?;
     Ok(())
 }
 
@@ -32,7 +33,7 @@ fn put_may_take(out: &mut String, table: &Table, call: u32, rest: &str) -> Resul
         return Err(Refused::Line);
     }
     let may = table.may_take(call, lock, mode);
-    writeln!(out, "{may}")?;
+    put_debug(out, &may)?;
     Ok(())
 }
 
@@ -45,7 +46,7 @@ fn release(out: &mut String, table: &mut Table, call: u32) -> Result<(), Refused
         return Err(Refused::Line);
     }
     table.release(call);
-    writeln!(out, "done")?;
+    out.push_str("done\n")?;
     Ok(())
 }
 
@@ -57,7 +58,8 @@ fn put_answer(out: &mut String, table: &mut Table, line: &str) -> Result<(), Ref
     let (word, rest) = cut(line);
     let (call, rest) = cut(rest);
     let call = short(call)?;
-    write!(out, "{line}: ")?;
+    out.push_str(line)?;
+    out.push_str(": ")?;
     match word {
         "take" => put_taken(out, table, call, rest),
         "may_take" => put_may_take(out, table, call, rest),

@@ -4,8 +4,8 @@ use crate::put::{put_cells, put_hex, put_position, put_written};
 use crate::refused::Refused;
 use crate::scene::{Scene, scene_of, world_of};
 use crate::words::{first_line, version_of};
-use block::{Block, Position, WriteRefusal, digest_calls, read_block, write_block, write_calls};
-use byte_sinks::{Failures, MemorySink};
+use block::{Block, Position, digest_calls, read_block, write_block, write_calls};
+use byte_sinks::{Failures, MemorySink, WriteRefusal};
 use hex::encode;
 use lock_profile::Profile;
 use rows_books::words::{cut, long, short, text_of};
@@ -28,7 +28,7 @@ pub(crate) fn block_bytes(alloc: Global, block: &Block) -> Result<Option<Vec<u8>
     }
     let mut sink = whole_sink(alloc);
     match write_block(alloc, block, &mut sink) {
-        Ok(()) => Ok(Some(sink.bytes().to_vec(alloc)?)),
+        Ok(()) => Ok(Some(sink.into_bytes())),
         Err(_) => Err(Refused::NoMemory),
     }
 }

@@ -86,10 +86,10 @@ fn contract_of(alloc: Global, bytes: &[u8]) -> Result<Deployed<Global>, Refused>
 /// The contract of a word.
 fn named(alloc: Global, word: &str) -> Result<Deployed<Global>, Refused> {
     match word {
-        "first" => contract_of(alloc, &FIRST_MODULE),
-        "example" => contract_of(alloc, &EXAMPLE),
-        "asking" => contract_of(alloc, &ASKING),
-        "probing" => contract_of(alloc, &PROBING),
+        "first" => contract_of(alloc, FIRST_MODULE),
+        "example" => contract_of(alloc, EXAMPLE),
+        "asking" => contract_of(alloc, ASKING),
+        "probing" => contract_of(alloc, PROBING),
         digits => match decode(alloc, digits) {
             Ok(bytes) => contract_of(alloc, &bytes),
             Err(_) => Err(Refused::Contract),

@@ -1,6 +1,7 @@
 //! What a call comes to at its end.
 
 use crate::machines::{play, started};
+use crate::put::put_debug;
 use crate::question::{question_of, version_of};
 use crate::refused::Refused;
 use interp::finished::Finished;
@@ -10,16 +11,12 @@ use std::alloc::Global;
 
 /// Puts how a call ended, the fuel that it used, how many levels it entered, the version, and what it asked for, a line each.
 fn put_finished(out: &mut String, finished: &Finished<'_, Global>) -> Result<(), Refused> {
-    let outcome = finished.outcome();
-    let used = finished.used();
-    let levels = finished.asks();
-    let version = finished.version();
-    writeln!(out, "{outcome:?}")?;
-    writeln!(out, "used {used}")?;
-    writeln!(out, "levels {levels}")?;
-    writeln!(out, "version {version:?}")?;
+    put_debug(out, "", &finished.outcome())?;
+    put_debug(out, "used ", &finished.used())?;
+    put_debug(out, "levels ", &finished.asks())?;
+    put_debug(out, "version ", &finished.version())?;
     for step in finished.trace() {
-        writeln!(out, "{step:?}")?;
+        put_debug(out, "", step)?;
     }
     Ok(())
 }

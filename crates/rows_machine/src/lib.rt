@@ -7,6 +7,7 @@ mod finishes;
 mod machines;
 mod memories;
 mod over_operands;
+mod put;
 mod question;
 mod refused;
 mod sessions;

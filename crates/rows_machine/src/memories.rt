@@ -1,5 +1,6 @@
 //! A linear memory, and a copy of it.
 
+use crate::put::put_debug;
 use crate::question::{cut, number, short};
 use crate::refused::Refused;
 use hex::{decode, encode};
@@ -28,7 +29,7 @@ fn put_stored(
         return Err(Refused::Line);
     }
     let answer = memory.store(short(at)?, short(offset)?, width, number(value)?);
-    writeln!(out, "{answer:?}")?;
+    put_debug(out, "", &answer)?;
     Ok(())
 }
 
@@ -41,7 +42,7 @@ fn put_loaded(out: &mut String, memory: &Linear<'_, Global>, rest: &str) -> Resu
         return Err(Refused::Line);
     }
     let answer = memory.load(short(at)?, short(offset)?, width);
-    writeln!(out, "{answer:?}")?;
+    put_debug(out, "", &answer)?;
     Ok(())
 }
 
@@ -57,7 +58,7 @@ fn put_written(
         return Err(Refused::Line);
     };
     let answer = memory.write_all(short(at)?, &bytes);
-    writeln!(out, "{answer:?}")?;
+    put_debug(out, "", &answer)?;
     Ok(())
 }
 
@@ -77,8 +78,8 @@ fn put_bytes(
     }
     let bytes = memory.bytes(alloc, from, count)?;
     let digits = encode(alloc, &bytes)?;
-    let digits = digits.as_str();
-    writeln!(out, "{digits}")?;
+    out.push_str(digits.as_str())?;
+    out.push('\n')?;
     Ok(())
 }
 
@@ -97,15 +98,15 @@ fn put_answer(
         "bytes" => put_bytes(alloc, out, memory, rest),
         "grow" => {
             let answer = memory.grow(short(rest)?);
-            writeln!(out, "{answer:?}")?;
+            put_debug(out, "", &answer)?;
             Ok(())
         }
         "size" => {
-            writeln!(out, "{}", memory.size())?;
+            put_debug(out, "", &memory.size())?;
             Ok(())
         }
         "length" => {
-            writeln!(out, "{}", memory.len())?;
+            put_debug(out, "", &memory.len())?;
             Ok(())
         }
         _ => Err(Refused::Line),

@@ -56,7 +56,7 @@ fn put_value(out: &mut String, value: Value) -> Result<(), Refused> {
 
 /// Puts how a call ends: its value alone, or its trap.
 fn put_outcome(out: &mut String, outcome: Outcome) -> Result<(), Refused> {
-    write!(out, " ")?;
+    out.push(' ')?;
     match outcome {
         Outcome::Returned(Some(value)) => put_value(out, value)?,
         Outcome::Trapped(code) => write!(out, "{code:?}")?,
@@ -75,7 +75,7 @@ fn put_line(
     seconds: &[Value],
 ) -> Result<(), Refused> {
     put_value(out, first)?;
-    write!(out, ":")?;
+    out.push(':')?;
     if seconds.is_empty() {
         let mut args = Vec::new(alloc);
         args.push(first)?;
@@ -87,7 +87,7 @@ fn put_line(
         args.push(*second)?;
         put_outcome(out, outcome_of(alloc, contracts, entry, args)?)?;
     }
-    writeln!(out, "")?;
+    out.push('\n')?;
     Ok(())
 }
 

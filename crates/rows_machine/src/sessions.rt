@@ -1,7 +1,9 @@
 //! What a session of the debugger answers, command by command.
 
+use crate::put::put_debug;
 use crate::question::{number, question_of};
 use crate::refused::Refused;
+use debugger::Place;
 use debugger::session::{Refusal, Session};
 use spec_ledger::Version;
 use std::alloc::Global;
@@ -13,11 +15,15 @@ fn two(words: &str) -> Result<(u64, u64), Refused> {
     Ok((number(first)?, number(second)?))
 }
 
-/// The function and the ordinal of a place.
-fn place_of(words: &str) -> Result<(u32, u32), Refused> {
+/// The place of this function and ordinal in a contract.
+fn place_of(contract: u32, words: &str) -> Result<Place, Refused> {
     let (func, ordinal) = two(words)?;
     match (u32::try_from(func), u32::try_from(ordinal)) {
-        (Ok(func), Ok(ordinal)) => Ok((func, ordinal)),
+        (Ok(func), Ok(ordinal)) => Ok(Place {
+            contract,
+            func,
+            ordinal,
+        }),
         _ => Err(Refused::Line),
     }
 }
@@ -42,23 +48,23 @@ fn put_move(
         "back" => session.back(number(rest)?),
         _ => session.cont(),
     };
-    writeln!(out, " {made:?}")?;
+    put_debug(out, " ", &made)?;
     Ok(())
 }
 
-/// Puts what a break comes to that is set or cleared.
+/// Puts what a break comes to that is set or cleared in the contract that is called.
 fn put_break(
     out: &mut String,
     session: &mut Session<'_, Global>,
     word: &str,
     rest: &str,
 ) -> Result<(), Refused> {
-    let (func, ordinal) = place_of(rest)?;
+    let place = place_of(session.called(), rest)?;
     let done = match word {
-        "break" => session.break_at(func, ordinal),
-        _ => session.clear(func, ordinal),
+        "break" => session.break_at(place),
+        _ => session.clear(place),
     };
-    writeln!(out, " {done:?}")?;
+    put_debug(out, " ", &done)?;
     Ok(())
 }
 
@@ -74,8 +80,7 @@ fn put_state(out: &mut String, session: &Session<'_, Global>) -> Result<(), Refu
 /// Puts the contract that the innermost level runs, how many levels are around it, and how many were entered.
 fn put_levels(out: &mut String, session: &Session<'_, Global>, word: &str) -> Result<(), Refused> {
     if word == "asks" {
-        let asks = session.asks();
-        writeln!(out, " {asks}")?;
+        put_debug(out, " ", &session.asks())?;
     } else {
         let contract = session.contract();
         let level = session.level();
@@ -91,7 +96,7 @@ fn put_values(out: &mut String, session: &Session<'_, Global>, word: &str) -> Re
         "locals" => session.locals(),
         _ => session.globals(),
     };
-    writeln!(out, " {values:?}")?;
+    put_debug(out, " ", &values)?;
     Ok(())
 }
 
@@ -99,7 +104,7 @@ fn put_values(out: &mut String, session: &Session<'_, Global>, word: &str) -> Re
 fn put_bytes(out: &mut String, session: &Session<'_, Global>, rest: &str) -> Result<(), Refused> {
     let (from, count) = two(rest)?;
     let bytes = session.bytes(from, count);
-    writeln!(out, " {bytes:?}")?;
+    put_debug(out, " ", &bytes)?;
     Ok(())
 }
 
@@ -116,7 +121,7 @@ fn put_asked(
         "step" | "back" | "cont" => put_move(out, session, word, rest),
         "back_by_ones" => {
             let gone = back_by_ones(session, number(rest)?);
-            writeln!(out, " {gone:?}")?;
+            put_debug(out, " ", &gone)?;
             Ok(())
         }
         "break" | "clear" => put_break(out, session, word, rest),

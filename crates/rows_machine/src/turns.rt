@@ -4,6 +4,7 @@ ghost use Rattle.interp.specs.Progress.{IsFree};
 
 use crate::finishes::put_end;
 use crate::machines::{make_turn, play, unfinished};
+use crate::put::put_debug;
 use crate::question::{number, question_of};
 use crate::refused::Refused;
 use interp::machine::Machine;
@@ -20,7 +21,7 @@ fn put_turns<'a>(
 {
     'turns: for _ in 0..count {
         let turn = make_turn(machine);
-        writeln!(out, "{turn:?}")?;
+        put_debug(out, "", &turn)?;
     }
     Ok(())
 }
@@ -33,20 +34,16 @@ fn put_shown<'a>(
 ) -> Result<(), Refused> {
     match word {
         "ending" => {
-            let ending = machine.ending();
-            writeln!(out, "ending {ending:?}")?;
+            put_debug(out, "ending ", &machine.ending())?;
         }
         "stack" => {
-            let values = machine.stack();
-            writeln!(out, "stack {values:?}")?;
+            put_debug(out, "stack ", &machine.stack())?;
         }
         "locals" => {
-            let values = machine.locals();
-            writeln!(out, "locals {values:?}")?;
+            put_debug(out, "locals ", &machine.locals())?;
         }
         "place" => {
-            let place = machine.place();
-            writeln!(out, "place {place:?}")?;
+            put_debug(out, "place ", &machine.place())?;
         }
         _ => return Err(Refused::Line),
     }

@@ -67,10 +67,10 @@ pub(crate) fn asked(alloc: Global, input: &[u8]) -> Result<String, Refused> {
     let Some((level, contract, export)) = three(from_utf8(input).unwrap_or("")) else {
         return Err(Refused::Line);
     };
-    let Ok(example) = deployed(alloc, &EXAMPLE) else {
+    let Ok(example) = deployed(alloc, EXAMPLE) else {
         return Err(Refused::Contract);
     };
-    let Ok(first) = deployed(alloc, &FIRST_MODULE) else {
+    let Ok(first) = deployed(alloc, FIRST_MODULE) else {
         return Err(Refused::Contract);
     };
     match asked_entry(&[example, first], level, contract, export) {

@@ -10,10 +10,11 @@ use Rattle.spec_ledger.specs.declared.Entry.{Entry}
 use Rattle.spec_ledger.proofs.Maps.{is_key, key_itself}
 use Rattle.lock_profile.specs.Turns.{IsProfile}
 use Rattle.spec_block.specs.Schedule.{hold_in, Holds, IsEdge}
-use Rattle.schedule.specs.declared.lock_turn.LockTurn.{LockTurn}
-use Rattle.schedule.specs.Turns.{turn_cmp, turn_of, next_turn, IsAt}
+use Rattle.lock_profile.specs.declared.lock_turn.LockTurn.{LockTurn}
+use Rattle.lock_profile.specs.LockTurns.{turn_cmp, turn_of}
+use Rattle.schedule.specs.Turns.{next_turn, IsAt}
 use Rattle.schedule.specs.Waves.{or_none, least_of, IsGreatest, IsAfter, AreRaised, IsTop}
-use Rattle.schedule.proofs.Places.{turn_cmp_total, turn_cmp-IsAntisymmetric}
+use Rattle.lock_profile.proofs.Places.{turn_cmp_total, turn_cmp-IsAntisymmetric}
 use Rattle.schedule.proofs.Profiles.{entry_published}
 use Rattle.schedule.proofs.Numbered.{at_is_holder}
 use Rattle.schedule.proofs.WaveSteps.{AreSoFar}

@@ -3,7 +3,6 @@ pub mod Counts
 pub mod Least
 pub mod Lists
 pub mod Numbered
-pub mod Places
 pub mod Profiles
 pub mod Published
 pub mod Turns

@@ -1,5 +1,5 @@
 -- The gates before the turns of profiles.
-use Rattle.std.proofs.Common.{Fits, w32, ◌^◌, ◌≡◌, ◌↔◌, ◌⊎◌, inl, inr, ℕ, ◌+◌, ◌<◌, ◌≤◌, true, false, cond, Option, Some, None, List, [], ◌∷◌, ◌++◌, length, take, get_or, set, slice_get, refl, sym, ◌∙◌, ap, subst, arith}
+use Rattle.std.proofs.Common.{Fits, w64, ◌^◌, ◌≡◌, ◌↔◌, ◌⊎◌, inl, inr, ℕ, ◌+◌, ◌<◌, ◌≤◌, true, false, cond, Option, Some, None, List, [], ◌∷◌, ◌++◌, length, take, get_or, set, slice_get, refl, sym, ◌∙◌, ap, subst, arith}
 use Rattle.std.specs.List.{Contains}
 use Rattle.std.specs.List.Sorted.{IsStrictlyIncreasing}
 use Rattle.std.proofs.lemmas.List.{take_more, length_push, length-set, get_or_push, get_or_append_left, get_or_past, get_or-set_other}
@@ -12,11 +12,12 @@ use Rattle.spec_ledger.specs.declared.Entry.{Entry}
 use Rattle.spec_ledger.proofs.Maps.{is_key, key_itself}
 use Rattle.lock_profile.specs.Turns.{IsProfile}
 use Rattle.spec_block.specs.Schedule.{hold_in}
-use Rattle.schedule.specs.declared.lock_turn.LockTurn.{LockTurn}
+use Rattle.lock_profile.specs.declared.lock_turn.LockTurn.{LockTurn}
 use Rattle.schedule.specs.Graph.{list_at, AreGates, IsThrough}
-use Rattle.schedule.specs.Turns.{after, turn_cmp, turn_of, next_turn, behind_gate, behind_turn, AreHeld, AreNumbered, HoldsGate, IsAt, IsHeld, IsHolder}
+use Rattle.lock_profile.specs.LockTurns.{after, turn_cmp, turn_of}
+use Rattle.schedule.specs.Turns.{next_turn, behind_gate, behind_turn, AreHeld, AreNumbered, HoldsGate, IsAt, IsHeld, IsHolder}
 use Rattle.schedule.proofs.Lists.{nothing, rising_none, rising_push}
-use Rattle.schedule.proofs.Places.{turn_cmp_total, turn_cmp-IsAntisymmetric}
+use Rattle.lock_profile.proofs.Places.{turn_cmp_total, turn_cmp-IsAntisymmetric}
 use Rattle.schedule.proofs.Profiles.{found_at, entry_published, later_lock}
 
 at_split : (q : LockTurn) (es : List Entry) (e : Entry) → IsAt q (es ++ e ∷ []) → IsAt q es ⊎ (turn_of e ≡ q)
@@ -265,7 +266,7 @@ next_none numbers es i d gate mid below none so_far =
       ],
     )
 
-pub fits_next : (es : List Entry) (i : ℕ) (d : Entry) → ((e : Entry) → Contains es e → e.turn < 2 ^ 16) → i < length es → Fits w32 ((get_or es i d).turn + 1)
+pub fits_next : (es : List Entry) (i : ℕ) (d : Entry) → ((e : Entry) → Contains es e → e.turn < 2 ^ 16) → i < length es → Fits w64 ((get_or es i d).turn + 1)
 fits_next es i d small below = let h = small (get_or es i d) (Contains-get_or es i d below) in omega (arith, h)
 
 -- one position more

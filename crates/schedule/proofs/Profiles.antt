@@ -13,8 +13,9 @@ use Rattle.spec_ledger.proofs.Maps.{lock_cmp_total, lock_cmp-IsAntisymmetric, is
 use Rattle.lock_profile.specs.Turns.{IsProfile}
 use Rattle.lock_profile.proofs.Groups.{left, right, less}
 use Rattle.spec_block.specs.Schedule.{hold_in}
-use Rattle.schedule.specs.declared.lock_turn.LockTurn.{LockTurn}
-use Rattle.schedule.specs.Turns.{turn_of, IsAt}
+use Rattle.lock_profile.specs.declared.lock_turn.LockTurn.{LockTurn}
+use Rattle.lock_profile.specs.LockTurns.{turn_of}
+use Rattle.schedule.specs.Turns.{IsAt}
 
 some_is : {A : Type 0} (x y : A) → Some x ≡ Some y → x ≡ y
 some_is x y e = cc e

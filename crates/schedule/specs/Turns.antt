@@ -1,28 +1,16 @@
 -- The gates before the turns of locks.
 use Rattle.std.specs.Prelude.{◌≡◌, ◌+◌, ◌<◌, ◌^◌, ◌↔◌, ℕ, Option, Some, None, List, [], length}
-use Rattle.std.specs.Ordering.{nat_cmp, ordering_then}
-use Rattle.std.specs.declared.cmp.Ordering.{Ordering}
 use Rattle.std.specs.List.{Contains}
 use Rattle.std.specs.List.Sorted.{IsStrictlyIncreasing}
 use Rattle.spec_ledger.specs.declared.Mode.{Mode}
 use Rattle.spec_ledger.specs.declared.Entry.{Entry}
-use Rattle.spec_ledger.specs.Cells.{lock_cmp}
 use Rattle.spec_block.specs.Schedule.{Holds}
-use Rattle.schedule.specs.declared.lock_turn.LockTurn.{LockTurn}
+use Rattle.lock_profile.specs.declared.lock_turn.LockTurn.{LockTurn}
+use Rattle.lock_profile.specs.LockTurns.{after, turn_of}
 use Rattle.schedule.specs.Graph.{list_at}
 
--- by lock, then by turn
-abbrev pub turn_cmp : LockTurn → LockTurn → Ordering
-turn_cmp a b = ordering_then (lock_cmp a.lock b.lock) (nat_cmp a.turn b.turn)
-
-abbrev pub turn_of : Entry → LockTurn
-turn_of e = record { lock = e.lock; turn = e.turn }
-
 abbrev pub next_turn : Entry → LockTurn
-next_turn e = record { lock = e.lock; turn = e.turn + 1 }
-
-abbrev pub after : LockTurn → LockTurn
-after q = record { lock = q.lock; turn = q.turn + 1 }
+next_turn e = after (turn_of e)
 
 -- some entry has this lock at this turn
 abbrev pub IsAt : LockTurn → List Entry → Type 0

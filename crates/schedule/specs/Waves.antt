@@ -2,8 +2,9 @@
 use Rattle.std.specs.Prelude.{◌≡◌, ◌+◌, ◌<◌, ◌≤◌, ◌⊎◌, ℕ, Option, Some, None, List, slice_index}
 use Rattle.std.specs.List.{Contains}
 use Rattle.spec_ledger.specs.declared.Entry.{Entry}
-use Rattle.schedule.specs.declared.lock_turn.LockTurn.{LockTurn}
-use Rattle.schedule.specs.Turns.{turn_of, next_turn}
+use Rattle.lock_profile.specs.declared.lock_turn.LockTurn.{LockTurn}
+use Rattle.lock_profile.specs.LockTurns.{turn_of}
+use Rattle.schedule.specs.Turns.{next_turn}
 
 abbrev pub or_none : Option ℕ → ℕ
 or_none None = 0

@@ -6,18 +6,6 @@ use lock_profile::Profile;
 use std::alloc::Allocator;
 use wtypes::NoMemory;
 
-/// The same profile once more.
-fn profile_of<A: Allocator + Copy>(alloc: A, profile: &Profile<A>) -> Result<Profile<A>, NoMemory>
-    ensures { IfOk result (λ copy. copy ≡ profile.now) }
-{
-    profile.use_invariant();
-    let entries = Vec::from_slice(alloc, profile.entries())?;
-    let Some(copy) = Profile::from_sorted(entries) else {
-        unreachable!()
-    };
-    Ok(copy)
-}
-
 /// The same profiles once more.
 pub(crate) fn profiles_of<A: Allocator + Copy>(
     alloc: A,
@@ -27,7 +15,7 @@ pub(crate) fn profiles_of<A: Allocator + Copy>(
 {
     let mut copy = Vec::new(alloc);
     for profile in profiles {
-        copy.push(profile_of(alloc, profile)?)?;
+        copy.push(profile.copy(alloc)?)?;
     }
     Ok(copy)
 }

@@ -7,13 +7,13 @@ ghost use Rattle.std.specs.List.{Contains};
 ghost use Rattle.spec_ledger.specs.declared.Entry.{Entry};
 ghost use Rattle.lock_profile.specs.Turns.{IsProfile};
 ghost use Rattle.spec_block.specs.Schedule.{HaveTurns};
-ghost use Rattle.schedule.specs.declared.lock_turn.LockTurn.{LockTurn};
+ghost use Rattle.lock_profile.specs.declared.lock_turn.LockTurn.{LockTurn};
 ghost use Rattle.schedule.specs.Graph.{AreGates, gathered};
-ghost use Rattle.schedule.specs.Turns.{turn_cmp, behind_turn, AreHeld, AreNumbered, IsAt, IsHeld, IsHolder};
+ghost use Rattle.lock_profile.specs.LockTurns.{turn_cmp};
+ghost use Rattle.schedule.specs.Turns.{behind_turn, AreHeld, AreNumbered, IsAt, IsHeld, IsHolder};
 
-use crate::lock_turn::LockTurn;
 use crate::numbers::{Numbers, rising};
-use lock_profile::Profile;
+use lock_profile::{LockTurn, Profile};
 use spec_ledger::Entry;
 use std::alloc::{Allocator, Global};
 use std::collections::BTreeMap;
@@ -92,7 +92,7 @@ fn put_profile<A: Allocator + Copy>(
     for entry in entries {
         let at = LockTurn {
             lock: entry.lock,
-            turn: entry.turn,
+            turn: entry.turn as u64,
         };
         put(alloc, numbers, behind, at, position)?;
     }
@@ -137,7 +137,7 @@ fn next_gates<A: Allocator + Copy>(
     for entry in entries {
         let next = LockTurn {
             lock: entry.lock,
-            turn: entry.turn + 1,
+            turn: entry.turn as u64 + 1,
         };
         if let Some(gate) = numbers.get(&next) {
             list.push(*gate)?;

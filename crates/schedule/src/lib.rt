@@ -11,7 +11,6 @@ mod board;
 mod copies;
 mod gates;
 mod laws;
-mod lock_turn;
 mod numbers;
 mod waves;
 

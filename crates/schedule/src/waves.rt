@@ -5,11 +5,10 @@ ghost use Rattle.std.specs.BTreeMap.{get};
 ghost use Rattle.std.specs.List.{Contains};
 ghost use Rattle.spec_ledger.specs.declared.Entry.{Entry};
 ghost use Rattle.spec_block.specs.Schedule.{AreApart, HaveTurns, IsWave};
-ghost use Rattle.schedule.specs.Turns.{turn_cmp};
+ghost use Rattle.lock_profile.specs.LockTurns.{turn_cmp};
 ghost use Rattle.schedule.specs.Waves.{least_of, AreRaised, IsGreatest};
 
-use crate::lock_turn::LockTurn;
-use lock_profile::Profile;
+use lock_profile::{LockTurn, Profile};
 use spec_ledger::Entry;
 use std::alloc::Allocator;
 use std::collections::BTreeMap;
@@ -33,7 +32,7 @@ fn wave_of<A: Allocator>(least: &BTreeMap<LockTurn, u32, A>, entries: &[Entry]) 
     for entry in entries {
         let own = LockTurn {
             lock: entry.lock,
-            turn: entry.turn,
+            turn: entry.turn as u64,
         };
         let left = least_at(least, own);
         if wave < left {
@@ -55,7 +54,7 @@ fn raise<A: Allocator + Copy>(
     for entry in entries {
         let next = LockTurn {
             lock: entry.lock,
-            turn: entry.turn + 1,
+            turn: entry.turn as u64 + 1,
         };
         if least_at(least, next) < wave {
             least.insert(next, wave)?;

@@ -4,7 +4,7 @@ use Rattle.std.specs.Prelude.{Bool, true, false, Option, ◌==◌, if◌then◌e
 use Rattle.std.proofs.lemmas.List.Elements.{All-cons, All-nil}
 use Rattle.wtypes.specs.declared.Value.{Value}
 use Rattle.wtypes.specs.declared.TrapCode.{TrapCode}
-use Rattle.spec_syntax.specs.Syntax.{ExportDesc, ExportFunc, ExportTable, ExportMemory, ExportGlobal}
+use Rattle.spec_modules.specs.Syntax.{ExportDesc, ExportFunc, ExportTable, ExportMemory, ExportGlobal}
 use Rattle.spec_ledger.specs.declared.Outcome.{Outcome}
 use Rattle.spec_ledger.specs.declared.Outcome.TheVariants.{Rejected}
 use Rattle.spec_ledger.specs.declared.Receipt.{Receipt}

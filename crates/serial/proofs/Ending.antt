@@ -1,9 +1,8 @@
 -- The end of a call: its changes stand, or the cells are as they were.
-use Rattle.std.proofs.Common.{◌≡◌, ℕ, Bool, true, false, cond, List, sym, ◌∙◌, ap, subst}
+use Rattle.std.proofs.Common.{◌≡◌, ℕ, Bool, true, false, cond, List, Some, slice_get, IfOk, sym, ◌∙◌, ap, subst}
 use Rattle.std.specs.Prelude.{Result, Ok, Err, OnErr}
 use Rattle.std.specs.FinMap.{empty}
 use Rattle.spec_ledger.specs.declared.Inverse.{Inverse}
-use Rattle.spec_ledger.specs.declared.Outcome.{Outcome}
 use Rattle.spec_ledger.specs.declared.Receipt.{Receipt}
 use Rattle.spec_ledger.specs.declared.TraceStep.{TraceStep}
 use Rattle.spec_ledger.specs.Cells.{Cells, AreCells}
@@ -15,10 +14,11 @@ use Rattle.storage.specs.Counts.{opened_all, closed_all, AreUnsettled}
 use Rattle.storage.proofs.Counted.{AreCounts-empty, AreUnsettled-opened_all, closed_all-opened_all}
 use Rattle.spec_execution.specs.Configuration.{Setting}
 use Rattle.spec_execution.specs.Run.{ContractCall}
-use Rattle.spec_execution.specs.Levels.{RunsWith, asks_in}
+use Rattle.spec_execution.specs.Levels.{RunsWith}
 use Rattle.spec_execution.specs.Exec.{Executes}
-use Rattle.interp.specs.Played.{Played, IsPlayed}
+use Rattle.interp.specs.Played.{Played, IsPlayed, receipt_of}
 use Rattle.serial.specs.Playing.{AreDone, IsPlayedOver}
+use Rattle.serial.specs.Runs.{IsRunOf}
 
 module _ (start now : Store) (t : List TraceStep) (is : List Inverse) (d : AreDone start t now is) (settled : start.unsettled ≡ empty) where
   counted : now.unsettled ≡ opened_all is empty
@@ -46,21 +46,27 @@ module _ (start now : Store) (t : List TraceStep) (is : List Inverse) (d : AreDo
   left_is are false = undone are
 
 module _ (lent : Setting) (call : ContractCall) (start now : Store) (f : Played) (is : List Inverse) (p : IsPlayedOver lent call start f now is) (run : IsPlayed f) (settled : start.unsettled ≡ empty) (are : AreCells start.cells) where
-  pub executed : (o : Outcome) → o ≡ f.outcome → (used : ℕ) → used ≡ f.used → (asks : ℕ) → asks ≡ asks_in f.trace → (stand : Bool) → stand ≡ has_returned o → (later : Cells) → later ≡ cond stand now.cells (back_all is now.cells)
-      → (t : List TraceStep) → t ≡ f.trace → (locks : Modes) → locks ≡ touched t → Executes lent call start.cells later (record { outcome = o; used = used; asks = asks }) locks
-  executed o o_is used used_is asks asks_are stand stand_is later later_is t t_is locks locks_are = record {
+  pub executed : (r : Receipt) → r ≡ receipt_of f → (stand : Bool) → stand ≡ has_returned r.outcome → (later : Cells) → later ≡ cond stand now.cells (back_all is now.cells)
+      → (t : List TraceStep) → t ≡ f.trace → (locks : Modes) → locks ≡ touched t → Executes lent call start.cells later r locks
+  executed r r_is stand stand_is later later_is t t_is locks locks_are = record {
     trace = f.trace;
-    run = subst (λ x. RunsWith lent call f.trace x used) (sym o_is) (subst (λ n. RunsWith lent call f.trace f.outcome n) (sym used_is)
-        (subst (λ c. RunsWith lent c f.trace f.outcome f.used) p.call_is (subst (λ ds. RunsWith ds f.call f.trace f.outcome f.used) p.lent run)));
-    asks = asks_are;
+    run = subst (λ (x : Receipt). RunsWith lent call f.trace x.outcome x.used) (sym r_is)
+        (subst (λ c. RunsWith lent c f.trace f.outcome f.used) p.call_is (subst (λ ds. RunsWith ds f.call f.trace f.outcome f.used) p.lent run));
+    asks = ap (λ (x : Receipt). x.asks) r_is;
     replies = p.done.replies;
-    later_is = later_is ∙ ap (λ b. cond b now.cells (back_all is now.cells)) stand_is ∙ left_is start now f.trace is p.done settled are (has_returned o);
+    later_is = later_is ∙ ap (λ b. cond b now.cells (back_all is now.cells)) stand_is ∙ left_is start now f.trace is p.done settled are (has_returned r.outcome);
     locks_are = locks_are ∙ ap touched t_is;
   }
 
 pub executed_for : (lent : Setting) (call : ContractCall) (start now : Store) (f : Played) (is : List Inverse) → IsPlayedOver lent call start f now is → (later : Cells) (r : Receipt) (locks : Modes)
     → Executes f.setting f.call start.cells later r locks → Executes lent call start.cells later r locks
 executed_for lent call start now f is p later r locks e = subst (λ c. Executes lent c start.cells later r locks) p.call_is (subst (λ ds. Executes ds f.call start.cells later r locks) p.lent e)
+
+-- what was played of the call of this number is a run of it
+pub is_run : {E : Type 0} (r : Result Played E) (setting : Setting) (calls : List ContractCall) (number : ℕ) (call : ContractCall)
+    → IfOk r (λ f. f.setting ≡ setting) → IfOk r (λ f. f.call ≡ call) → slice_get calls number ≡ Some call → IfOk r (IsRunOf setting calls number)
+is_run (Ok f) setting calls number call l c at = record { lent = l; call_is = at ∙ ap (λ x. Some x) (sym c) }
+is_run (Err e) setting calls number call l c at = tt
 
 pub on_err : {T E P : Type 0} (r : Result T E) → P → OnErr r P
 on_err (Ok x) p = tt

@@ -31,6 +31,9 @@ same_in_levels start now next t u is js ms ns trace e f g d =
     subst (λ x. AreDoneInLevels start x next js ns) (sym trace)
     (subst (λ x. AreDoneInLevels start t x js ns) (sym e) (subst (λ x. AreDoneInLevels start t now x ns) (sym f) (subst (λ x. AreDoneInLevels start t now is x) (sym g) d)))
 
+pub same_done : (start now next : Store) (t : List TraceStep) (is js : List Inverse) → next ≡ now → js ≡ is → AreDone start t now is → AreDone start t next js
+same_done start now next t is js e f d = subst (λ x. AreDone start t x js) (sym e) (subst (λ x. AreDone start t now x) (sym f) d)
+
 pushed : (t u : List TraceStep) (s : TraceStep) → u ≡ t ++ s ∷ [] → standing_at u ≡ stepped noted s (standing_at t)
 pushed t u s e = ap standing_at e ∙ standing_at-push t s
 

@@ -1,4 +1,3 @@
-pub mod Replies
 pub mod Doing
 pub mod Levels
 pub mod Meeting
@@ -10,7 +9,17 @@ pub mod Orders
 pub mod Redoing
 pub mod Going
 pub mod Causes
-pub mod Copies
 pub mod Crossing
 pub mod BlocksLimits
 pub mod BlocksOrders
+pub mod Untouched
+mod Accesses
+mod OverViewEnding
+mod OverViewMeeting
+mod Places
+mod Popping
+mod Reading
+mod Rows
+mod Stepping
+mod Wishes
+pub mod Walking

@@ -1,19 +1,15 @@
 -- What a run asked for is done, and it may go on.
 use Rattle.std.proofs.Common.{◌≡◌, ℕ, ◌+◌, ◌-◌, ◌*◌, ◌<◌, ◌≤◌, Bool, Option, Some, IfSome, List, [], ◌∷◌, ◌++◌, length, sym, ◌∙◌, ap, subst, arith}
-use Rattle.spec_ledger.specs.declared.Inverse.{Inverse}
 use Rattle.spec_ledger.specs.declared.Op.{Op}
 use Rattle.spec_ledger.specs.declared.Reply.{Reply}
-use Rattle.spec_ledger.specs.declared.TraceStep.TheVariants.{Did}
-use Rattle.spec_ledger.specs.Cells.{cells_after, reply_to, inverse_to}
+use Rattle.spec_ledger.specs.declared.TraceStep.{TraceStep}
+use Rattle.spec_ledger.specs.declared.TraceStep.TheVariants.{Did, Opened}
 use Rattle.spec_execution.specs.Run.{ContractCall}
-use Rattle.storage.specs.Counts.{Store, opened}
 use Rattle.interp.specs.declared.turns.Status.{Status}
 use Rattle.interp.specs.declared.turns.Status.TheVariants as status
 use Rattle.interp.specs.Progress.{Progress, IsSameCall, HasReplied, HasAnswered, AnsweredAt, GoesOn, IsFree, left_of, mark_of}
 use Rattle.serial.specs.declared.turn_loop.HostRequest.{HostRequest}
 use Rattle.serial.specs.Going.{HasComeTo, HasAskedFor, HasEntered, HasLeft, MayGoOn}
-use Rattle.serial.specs.Playing.{AreDoneInLevels, IsOnItsWay}
-use Rattle.serial.proofs.Levels.{did_one, entered}
 
 -- what the loop over turns answered
 pub came_to : (p q : Progress) (o : Option HostRequest) (w : HostRequest) → o ≡ Some w → IfSome o (λ x. HasComeTo p x q) → HasComeTo p w q
@@ -22,22 +18,21 @@ came_to p q o w is come = subst (λ x. IfSome x (λ y. HasComeTo p y q)) is come
 pub replied_to : (p q s : Progress) (op : Op) (r : Reply) → HasAskedFor p op q → HasAnswered q r s → HasReplied q op r s
 replied_to p q s op r asks answers = subst (λ x. AnsweredAt q r s x) asks.asking answers
 
--- ---- the steps are done on cells
+-- ---- what is known of the steps so far
 
 -- an operation that the run asked for
-pub asked_more : (start now next : Store) (p q s : Progress) (is js : List Inverse) (ms : List ℕ) (op : Op) (r : Reply) → HasAskedFor p op q → HasAnswered q r s → r ≡ reply_to op now.cells → next.cells ≡ cells_after op now.cells
-    → next.unsettled ≡ opened (inverse_to op now.cells) now.unsettled → js ≡ is ++ inverse_to op now.cells ∷ [] → IsOnItsWay start p now is ms → IsOnItsWay start s next js ms
-asked_more start now next p q s is js ms op r asks answers reply cells unsettled inverses d =
+pub asked_on : (P : List TraceStep → Type 0) (p q s : Progress) (op : Op) (r : Reply) → HasAskedFor p op q → HasAnswered q r s → P (p.trace ++ Did op r ∷ []) → P s.trace
+asked_on P p q s op r asks answers h =
     let replied = replied_to p q s op r asks answers in
-    did_one start now next p.trace s.trace is js ms op r d (replied.trace ∙ ap (λ t. t ++ Did op r ∷ []) asks.trace) reply cells unsettled inverses
+    subst P (sym (replied.trace ∙ ap (λ t. t ++ Did op r ∷ []) asks.trace)) h
 
 -- a level that it entered
-pub entered_more : (start now : Store) (p q : Progress) (is : List Inverse) (ms ns : List ℕ) (n : ℕ) → HasEntered p q → n ≡ length is → ns ≡ ms ++ n ∷ [] → IsOnItsWay start p now is ms → IsOnItsWay start q now is ns
-entered_more start now p q is ms ns n h size marks d = entered start now p.trace is ms d q.trace h.trace n size ns marks
+pub entered_on : (P : List TraceStep → Type 0) (p q : Progress) → HasEntered p q → P (p.trace ++ Opened ∷ []) → P q.trace
+entered_on P p q enters h = subst P (sym enters.trace) h
 
 -- a level that it left
-pub left_more : (start next : Store) (p q : Progress) (js : List Inverse) (ns : List ℕ) (keep : Bool) → HasLeft p keep q → AreDoneInLevels start (p.trace ++ mark_of keep ∷ []) next js ns → IsOnItsWay start q next js ns
-left_more start next p q js ns keep h d = subst (λ t. AreDoneInLevels start t next js ns) (sym h.trace) d
+pub left_on : (P : List TraceStep → Type 0) (p q : Progress) (keep : Bool) → HasLeft p keep q → P (p.trace ++ mark_of keep ∷ []) → P q.trace
+left_on P p q keep leaves h = subst P (sym leaves.trace) h
 
 -- ---- it may go on
 

@@ -1,5 +1,12 @@
 pub mod Asking
 pub mod Playing
 pub mod Positions
+pub mod Beginning
 pub mod Going
 pub mod Ordered
+pub mod Runs
+pub mod Over
+pub mod Behind
+pub mod Found
+pub mod Touches
+pub mod Calls

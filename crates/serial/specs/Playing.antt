@@ -9,7 +9,6 @@ use Rattle.storage.specs.Counts.{opened_all}
 use Rattle.spec_execution.specs.Configuration.{Setting}
 use Rattle.spec_execution.specs.Run.{ContractCall}
 use Rattle.interp.specs.Played.{Played}
-use Rattle.interp.specs.Progress.{Progress}
 use Rattle.spec_ledger.specs.declared.TraceStep.{TraceStep}
 
 -- the steps of a trace got their replies from the cells at the start, which they made these, and the inverses of what stands are these
@@ -36,9 +35,6 @@ pub record MayBeLeft (now : Store) (inverses : List Inverse) (marks : List ℕ) 
   pub start : Store
   pub trace : List TraceStep
   pub done : AreDoneInLevels start trace now inverses marks
-
-abbrev pub IsOnItsWay : Store → Progress → Store → List Inverse → List ℕ → Type 0
-IsOnItsWay start p now inverses marks = AreDoneInLevels start p.trace now inverses marks
 
 -- the run of a call over lent contracts, whose operations were done on these cells
 pub record IsPlayedOver (setting : Setting) (call : ContractCall) (start : Store) (f : Played) (now : Store) (inverses : List Inverse) : Type 0 where

@@ -11,7 +11,6 @@ ghost use Rattle.serial.specs.Positions.{results_of};
 ghost use Rattle.world.specs.Views.{world_view};
 ghost use Rattle.serial.specs.Ordered.{ArePossible, IsOutcomeOf, fuel_of_receipts};
 
-use crate::contracts::copied;
 use crate::positions::{fuel_of, positions_of};
 use crate::{Core, serial_core};
 use block::{Block, digest_calls};
@@ -49,7 +48,7 @@ pub fn build_block<A: Allocator + Copy>(
     let fuel = fuel_of(&core.receipts);
     let before = digest_world(alloc, world)?;
     let calls_digest = digest_calls(alloc, calls)?;
-    let next = World::new(copied(alloc, world.contracts())?, core.cells);
+    let next = world::world_after(alloc, world, core.cells)?;
     let after = digest_world(alloc, &next)?;
     match Block::new(version, before, calls_digest, positions, fuel, after) {
         Some(block) => Ok((block, next)),

@@ -1,14 +1,21 @@
-//! Serial execution of calls, the requests of a run to its host, and the block of an order: calls run one after another over boosted storage (Dickerson,
-//! Gazzillo, Herlihy, Koskinen, "Adding Concurrency to Smart Contracts", PODC 2017, section 4: the serial order that a miner publishes).
+//! Runs of calls, from one request to the host to the next: one after another over boosted storage, with the block of their order, or one over a view of the
+//! cells, which gives its read-write set (Dickerson, Gazzillo, Herlihy, Koskinen, "Adding Concurrency to Smart Contracts", PODC 2017, section 4: the serial
+//! order that a miner publishes, and calls that run speculatively).
 #![tactic(auto)]
 
 mod again;
+mod beginning;
 mod blocks;
-mod contracts;
+mod listing;
 mod locks;
+mod over_view;
+mod over_view_playing;
 mod playing;
 mod positions;
+mod read_write_set;
 mod steps;
+mod storage_loop;
+mod touches;
 mod turn_loop;
 
 ghost use Rattle.std.specs.Prelude.{◌≡◌, ◌<◌, ◌↔◌, IfOk, OnErr, IfSome, IfNone, IsSome, length};
@@ -24,19 +31,22 @@ ghost use Rattle.serial.specs.Playing.{AreDone};
 ghost use Rattle.serial.specs.Positions.{results_of};
 
 use crate::again::act_again;
+pub use crate::beginning::{Begun, begin};
 pub use crate::blocks::{build_block, run, run_as};
 pub use crate::locks::touched_by;
+pub use crate::over_view::{Reads, run_over};
 use crate::playing::play;
+pub use crate::read_write_set::write_back;
+pub use crate::storage_loop::{Storage, play_over};
 pub use crate::turn_loop::{HostRequest, next_request};
 use call::Call;
-pub use contracts::copied;
 use interp::finished::Finished;
 use link::deployed::Deployed as Contract;
 use lock_profile::Touched;
 pub use positions::positions_of;
 use spec_ledger::{Inverse, NoMemory, Receipt, Version};
 use std::alloc::{Allocator, Global};
-use storage::{Cells, end_all, returned};
+use storage::{Cells, end_all, end_alone, returned};
 
 /// What calls came to that ran one after another.
 #[derive(Drop)]
@@ -66,22 +76,19 @@ fn conclude<A: Allocator + Copy>(
     cells: &mut Cells<A>,
     inverses: Vec<Inverse, A>,
 ) -> Result<Executed<A>, NoMemory>
-    requires { AreUnsettled inverses.items cells.old.unsettled }
+    requires unsettled { AreUnsettled inverses.items cells.old.unsettled }
+    requires alone { closed_all inverses.items cells.old.unsettled ≡ finite.empty }
     ensures executed { IfOk result (λ e. (start : Store) → AreDone start finished.now.trace cells.old inverses.items → start.unsettled ≡ finite.empty → AreCells start.cells → Executes finished.now.setting finished.now.call start.cells cells.new.cells e.receipt e.touched) }
     ensures err { OnErr result (cells.new.cells ≡ back_all inverses.items cells.old.cells) }
     ensures unsettled { cells.new.unsettled ≡ closed_all inverses.items cells.old.unsettled }
 {
     finished.is_played();
-    let receipt = Receipt {
-        outcome: finished.outcome(),
-        used: finished.used(),
-        asks: finished.asks(),
-    };
+    let receipt = finished.receipt();
     let Ok(touched) = touched_by(alloc, finished.trace()) else {
         end_all(cells, inverses, false);
         return Err(NoMemory);
     };
-    end_all(cells, inverses, returned(receipt.outcome));
+    end_alone(cells, inverses, returned(receipt.outcome));
     Ok(Executed { receipt, touched })
 }
 

@@ -30,8 +30,11 @@ pub record Block : Type 0 where
 abbrev pub order_of : Block → List ℕ
 order_of b = map (λ (p : Position). p.call) b.positions
 
+abbrev pub profiles_in : List Position → List (List Entry)
+profiles_in positions = map (λ (p : Position). p.profile) positions
+
 abbrev pub profiles_of : Block → List (List Entry)
-profiles_of b = map (λ (p : Position). p.profile) b.positions
+profiles_of b = profiles_in b.positions
 
 abbrev pub limits : List Call → List ℕ
 limits calls = map (λ (c : Call). c.fuel) calls

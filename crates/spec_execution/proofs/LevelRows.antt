@@ -6,7 +6,7 @@ use Rattle.wtypes.specs.declared.Value.TheVariants.{I32, I64}
 use Rattle.wtypes.specs.declared.CvtOp.TheVariants.{I64ExtendI32U}
 use Rattle.wtypes.specs.declared.PlainInstr.TheVariants.{Unreachable, LocalGet, Const, Call, Drop, Convert}
 use Rattle.wtypes.specs.declared.HostCall.TheVariants as host
-use Rattle.spec_syntax.specs.Syntax.{Instr, Plain, instrs_of, Func, ExportFunc}
+use Rattle.spec_modules.specs.Syntax.{Instr, Plain, instrs_of, Func, ExportFunc}
 use Rattle.spec_ledger.specs.declared.Op.TheVariants as op
 use Rattle.spec_ledger.specs.declared.Reply.TheVariants as reply
 use Rattle.spec_ledger.specs.declared.TraceStep.{TraceStep}

@@ -6,7 +6,7 @@ use Rattle.wtypes.specs.declared.LoadOp.TheVariants.{I32Load}
 use Rattle.wtypes.specs.declared.StoreOp.TheVariants.{I64Store}
 use Rattle.wtypes.specs.declared.TrapCode.TheVariants as trap
 use Rattle.wtypes.specs.declared.PlainInstr.TheVariants.{Unreachable, Const, CallIndirect, Load, Store, MemoryGrow, GlobalGet, GlobalSet, Select}
-use Rattle.spec_syntax.specs.Syntax.{Instr, Plain, BrTable, Block, nothing, instrs_of, Module, Func, ExportFunc}
+use Rattle.spec_modules.specs.Syntax.{Instr, Plain, BrTable, Block, nothing, instrs_of, Module, Func, ExportFunc}
 use Rattle.spec_ledger.specs.declared.Outcome.{Outcome}
 use Rattle.spec_ledger.specs.declared.Outcome.TheVariants.{Returned, Trapped}
 use Rattle.spec_execution.specs.Reduction.{reduce, execute, execute_plain, loaded, stored, grown}

@@ -7,7 +7,7 @@ use Rattle.wtypes.specs.declared.BinOp.TheVariants.{Add, Sub}
 use Rattle.wtypes.specs.declared.TestOp.TheVariants.{Eqz}
 use Rattle.wtypes.specs.declared.TrapCode.TheVariants as trap
 use Rattle.wtypes.specs.declared.PlainInstr.TheVariants.{LocalGet, LocalTee, Const, Binary, Test, BrIf, Call}
-use Rattle.spec_syntax.specs.Syntax.{Instr, Plain, Loop, If, instrs_of, Module, FuncType, ExportFunc}
+use Rattle.spec_modules.specs.Syntax.{Instr, Plain, Loop, If, instrs_of, Module, FuncType, ExportFunc}
 use Rattle.spec_ledger.specs.declared.Op.{Op}
 use Rattle.spec_ledger.specs.declared.Reply.{Reply}
 use Rattle.spec_ledger.specs.declared.TraceStep.{TraceStep}

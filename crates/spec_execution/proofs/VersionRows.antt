@@ -3,7 +3,7 @@ use Rattle.std.proofs.Common.{◌≡◌, ℕ, List, [], ◌∷◌, Option, Some,
 use Rattle.wtypes.specs.declared.Value.TheVariants.{I32}
 use Rattle.spec_ledger.specs.declared.Version.{Version}
 use Rattle.spec_ledger.specs.declared.Version.TheVariants.{One, Two}
-use Rattle.spec_syntax.specs.Syntax.{Limits, Module}
+use Rattle.spec_modules.specs.Syntax.{Limits, Module}
 use Rattle.spec_execution.specs.Configuration.{Seq, End, Val, State}
 use Rattle.spec_execution.specs.Reduction.{Next, Goes, most_pages, pages, grown}
 use Rattle.spec_execution.proofs.Rows.{no_module}

@@ -4,13 +4,13 @@ use Rattle.wtypes.specs.declared.ValType.TheVariants.{I32}
 use Rattle.wtypes.specs.declared.Value.{Value}
 use Rattle.wtypes.specs.declared.PlainInstr.TheVariants.{Const}
 use Rattle.wtypes.specs.declared.TrapCode.{TrapCode}
-use Rattle.spec_syntax.specs.Syntax.{Instr, Plain, Instrs, nothing, seq, FuncType, Func, Limits, Element, DataSegment, Module}
-use Rattle.spec_syntax.specs.Shape.{instr_preorder}
+use Rattle.spec_modules.specs.Syntax.{Instr, Plain, Instrs, nothing, seq, FuncType, Func, Limits, Element, DataSegment, Module}
+use Rattle.spec_modules.specs.Shape.{instr_preorder}
 use Rattle.wtypes.specs.declared.HostCall.{HostCall}
 use Rattle.spec_ledger.specs.declared.Version.{Version}
-use Rattle.spec_syntax.specs.Profile.{page_size, host_type}
-use Rattle.spec_numeric.specs.Operators.{value_of, bits_of}
-use Rattle.spec_numeric.specs.Memory.{written}
+use Rattle.spec_modules.specs.Profile.{page_size, host_type}
+use Rattle.spec_modules.specs.Operators.{value_of, bits_of}
+use Rattle.spec_modules.specs.Memory.{written}
 
 -- ---- contracts
 

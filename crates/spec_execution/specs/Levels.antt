@@ -6,7 +6,7 @@ use Rattle.wtypes.specs.declared.Value.TheVariants as value
 use Rattle.wtypes.specs.declared.TrapCode.{TrapCode}
 use Rattle.spec_ledger.specs.declared.Version.{Version}
 use Rattle.wtypes.specs.declared.TrapCode.TheVariants as trap
-use Rattle.spec_syntax.specs.Syntax.{FuncType, ExportDesc, ExportFunc}
+use Rattle.spec_modules.specs.Syntax.{FuncType, ExportDesc, ExportFunc}
 use Rattle.spec_ledger.specs.declared.Op.{Op}
 use Rattle.spec_ledger.specs.declared.Reply.{Reply}
 use Rattle.spec_ledger.specs.declared.Reply.TheVariants as reply

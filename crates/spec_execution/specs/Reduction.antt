@@ -11,8 +11,8 @@ use Rattle.wtypes.specs.declared.TrapCode.{TrapCode}
 use Rattle.wtypes.specs.declared.TrapCode.TheVariants as trap
 use Rattle.wtypes.specs.declared.PlainInstr.{PlainInstr}
 use Rattle.wtypes.specs.declared.PlainInstr.TheVariants.{Unreachable, Nop, Br, BrIf, Return, Call, CallIndirect, Drop, Select, LocalGet, LocalSet, LocalTee, GlobalGet, GlobalSet, Load, Store, MemorySize, MemoryGrow, Const, Unary, Binary, Test, Compare, Convert}
-use Rattle.spec_syntax.specs.Syntax.{Instr, Plain, BrTable, Block, Loop, If, Instrs, nothing, seq, FuncType, Limits}
-use Rattle.spec_syntax.specs.Shape.{size}
+use Rattle.spec_modules.specs.Syntax.{Instr, Plain, BrTable, Block, Loop, If, Instrs, nothing, seq, FuncType, Limits}
+use Rattle.spec_modules.specs.Shape.{size}
 use Rattle.spec_ledger.specs.declared.CellKey.{CellKey}
 use Rattle.spec_ledger.specs.declared.Op.{Op}
 use Rattle.spec_ledger.specs.declared.Op.TheVariants as op
@@ -22,10 +22,10 @@ use Rattle.wtypes.specs.declared.HostCall.{HostCall}
 use Rattle.wtypes.specs.declared.HostCall.TheVariants as host
 use Rattle.spec_ledger.specs.declared.Version.{Version}
 use Rattle.spec_ledger.specs.declared.Version.TheVariants.{One, Two}
-use Rattle.spec_syntax.specs.Profile.{page_limit, page_size, frame_limit}
-use Rattle.spec_numeric.specs.Operators.{same_type, type_of, bits_of, value_of, word, truth, unary, unary_type, binary, binary_type, test, test_type, compare, compare_type, convert, convert_from, convert_to}
-use Rattle.spec_numeric.specs.Storage.{load_type, load_width, extended, store_type, store_width}
-use Rattle.spec_numeric.specs.Memory.{load, store}
+use Rattle.spec_modules.specs.Profile.{page_limit, page_size, frame_limit}
+use Rattle.spec_modules.specs.Operators.{same_type, type_of, bits_of, value_of, word, truth, unary, unary_type, binary, binary_type, test, test_type, compare, compare_type, convert, convert_from, convert_to}
+use Rattle.spec_modules.specs.Storage.{load_type, load_width, extended, store_type, store_width}
+use Rattle.spec_modules.specs.Memory.{load, store}
 use Rattle.spec_execution.specs.Configuration.{Contract, Function, Hosted, Defined, function_at, function_type, Seq, End, Val, Code, Free, Label, Frame, Invoke, code, values, State}
 
 -- What a call of an import asks of the host: an operation on storage; a run of an export of a contract, with this argument; or the answer to the

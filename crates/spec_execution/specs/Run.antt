@@ -5,13 +5,13 @@ use Rattle.wtypes.specs.declared.ValType.{ValType}
 use Rattle.wtypes.specs.declared.Value.{Value}
 use Rattle.wtypes.specs.declared.TrapCode.{TrapCode}
 use Rattle.spec_ledger.specs.declared.Version.{Version}
-use Rattle.spec_syntax.specs.Syntax.{Name, Export, ExportDesc, ExportFunc}
+use Rattle.spec_modules.specs.Syntax.{Name, Export, ExportDesc, ExportFunc}
 use Rattle.spec_ledger.specs.declared.CellKey.{CellKey}
 use Rattle.spec_ledger.specs.declared.Op.{Op}
 use Rattle.spec_ledger.specs.declared.Op.TheVariants.{Get, Has, Put, Del, Add, Total}
 use Rattle.spec_ledger.specs.declared.Reply.{Reply}
 use Rattle.spec_ledger.specs.declared.Reply.TheVariants as reply
-use Rattle.spec_numeric.specs.Operators.{same_type, type_of}
+use Rattle.spec_modules.specs.Operators.{same_type, type_of}
 use Rattle.spec_execution.specs.Configuration.{Setting, Deployed, Contract, Function, Defined, function_at, Seq, End, Invoke, arguments, State, Config, Running, Trap, fresh}
 use Rattle.spec_execution.specs.Reduction.{HostEffect, Of, Ask, Answer, Next, Goes, Traps, Branches, Returns, Stuck, reduce}
 

@@ -7,8 +7,8 @@ use Rattle.std.specs.Prelude.{codes}
 use Rattle.wtypes.specs.declared.ValType.TheVariants as T
 use Rattle.wtypes.specs.declared.BinOp.TheVariants as B
 use Rattle.wtypes.specs.declared.PlainInstr.TheVariants as P
-use Rattle.spec_syntax.specs.Syntax as S
-use Rattle.spec_syntax.specs.Syntax.{Module, FuncType}
+use Rattle.spec_modules.specs.Syntax as S
+use Rattle.spec_modules.specs.Syntax.{Module, FuncType}
 use Rattle.spec_text.specs.declared.TokenKind.TheVariants as kind
 use Rattle.spec_text.specs.declared.KeyWord.TheVariants as k
 use Rattle.spec_text.specs.declared.Operator.TheVariants as o

@@ -2,8 +2,8 @@
 use Rattle.std.specs.Prelude.{◌≡◌, ℕ, suc, ◌+◌, List, [], ◌∷◌, ◌++◌, Option, Some, None, map}
 use Rattle.std.specs.List.{flat_map, filter_map}
 use Rattle.wtypes.specs.declared.ValType.{ValType}
-use Rattle.spec_syntax.specs.Syntax as S
-use Rattle.spec_syntax.specs.Syntax.{Instrs, FuncType, GlobalType, Module}
+use Rattle.spec_modules.specs.Syntax as S
+use Rattle.spec_modules.specs.Syntax.{Instrs, FuncType, GlobalType, Module}
 use Rattle.spec_text.specs.Named
 use Rattle.spec_text.specs.Named.{Index, Binding, TypeUse, Flat, Field, TypeField, ImportField, FuncField, TableField, MemoryField, GlobalField, ExportField, StartField, ElemField, DataField, FuncDesc, TableDesc, MemoryDesc, GlobalDesc}
 use Rattle.spec_text.specs.Numbers.{IsU32}

@@ -3,7 +3,7 @@ use Rattle.std.specs.Prelude.{ℕ, List, map, Option, option_map}
 use Rattle.wtypes.specs.declared.ValType.{ValType}
 use Rattle.wtypes.specs.declared.LoadOp.{LoadOp}
 use Rattle.wtypes.specs.declared.StoreOp.{StoreOp}
-use Rattle.spec_syntax.specs.Syntax.{GlobalType}
+use Rattle.spec_modules.specs.Syntax.{GlobalType}
 use Rattle.spec_text.specs.declared.Operator.{Operator}
 
 -- an index in the text: an integer, or a name

@@ -6,9 +6,9 @@ use Rattle.wtypes.specs.declared.StoreOp.{StoreOp}
 use Rattle.wtypes.specs.declared.Value.{Value}
 use Rattle.wtypes.specs.declared.PlainInstr.{PlainInstr}
 use Rattle.wtypes.specs.declared.PlainInstr.TheVariants as P
-use Rattle.spec_syntax.specs.Syntax as S
-use Rattle.spec_syntax.specs.Syntax.{Instr, Instrs}
-use Rattle.spec_numeric.specs.Storage.{load_width, store_width}
+use Rattle.spec_modules.specs.Syntax as S
+use Rattle.spec_modules.specs.Syntax.{Instr, Instrs}
+use Rattle.spec_modules.specs.Storage.{load_width, store_width}
 use Rattle.spec_text.specs.declared.Operator.{Operator}
 use Rattle.spec_text.specs.declared.Operator.TheVariants as o
 use Rattle.spec_text.specs.Named

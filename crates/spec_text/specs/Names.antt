@@ -1,8 +1,8 @@
 -- The modules that texts name.
 use Rattle.std.specs.Prelude.{◌≡◌, ℕ, ◌≤◌, List, length}
-use Rattle.spec_syntax.specs.Syntax.{Module}
-use Rattle.spec_syntax.specs.Profile.{byte_limit}
-use Rattle.spec_binary.specs.Spells.{ModuleFits}
+use Rattle.spec_modules.specs.Syntax.{Module}
+use Rattle.spec_modules.specs.Profile.{byte_limit}
+use Rattle.spec_modules.specs.Spells.{ModuleFits}
 use Rattle.spec_text.specs.Lexical.{Token, Lexes}
 use Rattle.spec_text.specs.Words.{Word, AreWords}
 use Rattle.spec_text.specs.Placed.{Field, without_places}

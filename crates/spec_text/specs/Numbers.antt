@@ -2,7 +2,7 @@
 use Rattle.std.specs.Prelude.{◌≡◌, ℕ, ◌+◌, ◌-◌, ◌*◌, ◌%◌, ◌^◌, ◌<◌, ◌≤◌, List, [], ◌∷◌, true}
 use Rattle.wtypes.specs.declared.ValType.{ValType}
 use Rattle.wtypes.specs.declared.Value.{Value}
-use Rattle.spec_numeric.specs.Operators.{word, value_of}
+use Rattle.spec_modules.specs.Operators.{word, value_of}
 use mir.Val.{bits}
 use Rattle.spec_text.specs.Characters as ascii
 use Rattle.spec_text.specs.Lexical.{HexDigit, is_digit}

@@ -1,6 +1,6 @@
 -- Index spaces and their names (Core 6.1.3, Contexts; 6.6.1, Indices).
 use Rattle.std.specs.Prelude.{◌≡◌, ◌≢◌, ℕ, suc, List, [], ◌∷◌, Option, Some, None}
-use Rattle.spec_syntax.specs.Syntax.{FuncType}
+use Rattle.spec_modules.specs.Syntax.{FuncType}
 use Rattle.spec_text.specs.Named
 use Rattle.spec_text.specs.Named.{Index, Numbered}
 use Rattle.spec_text.specs.Numbers.{IsU32}

@@ -2,7 +2,7 @@
 use Rattle.std.specs.Prelude.{◌≡◌, ◌≢◌, ℕ, suc, List, [], ◌∷◌, ◌++◌, Some, None, map, slice_get}
 use Rattle.std.specs.List.{flat_map}
 use Rattle.wtypes.specs.declared.ValType.{ValType}
-use Rattle.spec_syntax.specs.Syntax.{FuncType}
+use Rattle.spec_modules.specs.Syntax.{FuncType}
 use Rattle.spec_text.specs.Named
 use Rattle.spec_text.specs.Named.{Index, Binding, TypeUse, Flat, Field, ImportField, FuncField, GlobalField, ElemField, DataField, FuncDesc}
 use Rattle.spec_text.specs.Spaces.{Names, Stands}

@@ -20,7 +20,7 @@ use Rattle.spec_ledger.proofs.Maps.{lock_cmp_total, lock_cmp-IsAntisymmetric}
 use Rattle.storage.specs.declared.Slot.{Slot}
 use Rattle.storage.specs.Slots.{cells_in, counts_in, cell_in, count_in}
 use Rattle.storage.proofs.Listed.{first, second, is_less}
-use Rattle.storage.proofs.Slots.{get-cells_in, get-counts_in}
+use Rattle.storage.proofs.Slots.{get-cells_in, get-counts_in, nothing_above}
 
 -- the slot of a number, in which nothing is unsettled
 abbrev pub settled : ℕ → Slot
@@ -46,9 +46,9 @@ cell-settled : (o : Option ℕ) → cell_in (option_map settled o) ≡ o
 cell-settled None = refl
 cell-settled (Some v) = refl
 
-count-settled : (o : Option ℕ) → counter (count_in (option_map settled o)) ≡ None
-count-settled None = refl
-count-settled (Some v) = refl
+count-settled : (floor : ℕ) (o : Option ℕ) → counter (count_in floor (option_map settled o)) ≡ None
+count-settled floor None = refl
+count-settled floor (Some v) = ap counter (nothing_above floor)
 
 module _ (m : Cells) (n : BTreeMap Lock Slot) (made : tree.IsFromIterResult lock_cmp (map with_settled (entries m)) n) where
   slot_found : (q : Lock) → tree.get lock_cmp n q ≡ option_map settled (get m q)
@@ -62,6 +62,6 @@ module _ (m : Cells) (n : BTreeMap Lock Slot) (made : tree.IsFromIterResult lock
   pub cells_copied : cells_in n.entries ≡ m
   cells_copied = same_map lock_cmp_total lock_cmp-IsAntisymmetric _ _ (λ q. get-cells_in n.entries q ∙ ap cell_in (slot_found q) ∙ cell-settled (get m q))
 
-  pub counts_copied : counts_in n.entries ≡ empty
-  counts_copied = same_map lock_cmp_total lock_cmp-IsAntisymmetric _ _ (λ q.
-      get-counts_in n.entries q ∙ ap (λ o. counter (count_in o)) (slot_found q) ∙ count-settled (get m q) ∙ sym (get-empty lock_cmp q))
+  pub counts_copied : (floor : ℕ) → counts_in floor n.entries ≡ empty
+  counts_copied floor = same_map lock_cmp_total lock_cmp-IsAntisymmetric _ _ (λ q.
+      get-counts_in floor n.entries q ∙ ap (λ o. counter (count_in floor o)) (slot_found q) ∙ count-settled floor (get m q) ∙ sym (get-empty lock_cmp q))

@@ -1,5 +1,5 @@
 -- What slots hold, key by key.
-use Rattle.std.proofs.Common.{◌≡◌, ℕ, zero, suc, ◌+◌, ◌<◌, ◌^◌, arith, Bool, true, false, cond, Option, Some, None, unwrap_or, List, [], ◌∷◌, refl, sym, ◌∙◌, ap, subst}
+use Rattle.std.proofs.Common.{◌≡◌, ℕ, zero, suc, ◌+◌, ◌-◌, ◌<◌, ◌≤◌, ◌^◌, arith, Bool, true, false, cond, Option, Some, None, unwrap_or, List, [], ◌∷◌, refl, sym, ◌∙◌, ap, subst}
 use Rattle.std.specs.Ordering.{eq_by_cmp, is_eq}
 use Rattle.std.specs.Map.{lookup}
 use Rattle.std.specs.Cmp.{eq_by_cmp_equiv}
@@ -33,16 +33,16 @@ get-cells_in (e ∷ es) q =
     ∙ ap (cond (eq_by_cmp lock_cmp q e.0) e.1.cell) (get-cells_in es q)
     ∙ cell_of_cond (eq_by_cmp lock_cmp q e.0) e.1 _
 
-count_of_cond : (b : Bool) (v : Slot) (o : Option Slot) → cond b (counter v.unsettled) (counter (count_in o)) ≡ counter (count_in (cond b (Some v) o))
-count_of_cond true v o = refl
-count_of_cond false v o = refl
+count_of_cond : (floor : ℕ) (b : Bool) (v : Slot) (o : Option Slot) → cond b (counter (v.unsettled - floor)) (counter (count_in floor o)) ≡ counter (count_in floor (cond b (Some v) o))
+count_of_cond floor true v o = refl
+count_of_cond floor false v o = refl
 
-pub get-counts_in : (es : List (Lock × Slot)) (q : Lock) → finite.get (counts_in es) q ≡ counter (count_in (lookup (λ k. is_eq (lock_cmp q k)) es))
-get-counts_in [] q = finite.get-empty lock_cmp q
-get-counts_in (e ∷ es) q =
-    get-set_at lock_cmp_total (counts_in es) e.0 (counter e.1.unsettled) q
-    ∙ ap (cond (eq_by_cmp lock_cmp q e.0) (counter e.1.unsettled)) (get-counts_in es q)
-    ∙ count_of_cond (eq_by_cmp lock_cmp q e.0) e.1 _
+pub get-counts_in : (floor : ℕ) (es : List (Lock × Slot)) (q : Lock) → finite.get (counts_in floor es) q ≡ counter (count_in floor (lookup (λ k. is_eq (lock_cmp q k)) es))
+get-counts_in floor [] q = finite.get-empty lock_cmp q
+get-counts_in floor (e ∷ es) q =
+    get-set_at lock_cmp_total (counts_in floor es) e.0 (counter (e.1.unsettled - floor)) q
+    ∙ ap (cond (eq_by_cmp lock_cmp q e.0) (counter (e.1.unsettled - floor))) (get-counts_in floor es q)
+    ∙ count_of_cond floor (eq_by_cmp lock_cmp q e.0) e.1 _
 
 -- what a map of slots means after one is written or dropped
 module _ (m n : BTreeMap Lock Slot) (lock : Lock) (o : Option Slot) (h : (q : Lock) → tree.get lock_cmp n q ≡ cond (eq_by_cmp lock_cmp lock q) o (tree.get lock_cmp m q)) where
@@ -55,22 +55,22 @@ module _ (m n : BTreeMap Lock Slot) (lock : Lock) (o : Option Slot) (h : (q : Lo
       ∙ ap (λ b. cond b (cell_in o) (finite.get (cells_in m.entries) q)) ((eq_by_cmp_equiv lock_cmp_total).symm lock q)
       ∙ sym (get-set_at lock_cmp_total (cells_in m.entries) lock (cell_in o) q))
 
-  pub counts_written : counts_in n.entries ≡ set_at (counts_in m.entries) lock (counter (count_in o))
-  counts_written = finite.same_map lock_cmp_total lock_cmp-IsAntisymmetric _ _ (λ q.
-      get-counts_in n.entries q
-      ∙ ap (λ x. counter (count_in x)) (h q)
-      ∙ elim (eq_by_cmp lock_cmp lock q) as (λ b. counter (count_in (cond b o (tree.get lock_cmp m q))) ≡ cond b (counter (count_in o)) (counter (count_in (tree.get lock_cmp m q)))) [ true ↦ refl | false ↦ refl ]
-      ∙ ap (cond (eq_by_cmp lock_cmp lock q) (counter (count_in o))) (sym (get-counts_in m.entries q))
-      ∙ ap (λ b. cond b (counter (count_in o)) (finite.get (counts_in m.entries) q)) ((eq_by_cmp_equiv lock_cmp_total).symm lock q)
-      ∙ sym (get-set_at lock_cmp_total (counts_in m.entries) lock (counter (count_in o)) q))
+  pub counts_written : (floor : ℕ) → counts_in floor n.entries ≡ set_at (counts_in floor m.entries) lock (counter (count_in floor o))
+  counts_written floor = finite.same_map lock_cmp_total lock_cmp-IsAntisymmetric _ _ (λ q.
+      get-counts_in floor n.entries q
+      ∙ ap (λ x. counter (count_in floor x)) (h q)
+      ∙ elim (eq_by_cmp lock_cmp lock q) as (λ b. counter (count_in floor (cond b o (tree.get lock_cmp m q))) ≡ cond b (counter (count_in floor o)) (counter (count_in floor (tree.get lock_cmp m q)))) [ true ↦ refl | false ↦ refl ]
+      ∙ ap (cond (eq_by_cmp lock_cmp lock q) (counter (count_in floor o))) (sym (get-counts_in floor m.entries q))
+      ∙ ap (λ b. cond b (counter (count_in floor o)) (finite.get (counts_in floor m.entries) q)) ((eq_by_cmp_equiv lock_cmp_total).symm lock q)
+      ∙ sym (get-set_at lock_cmp_total (counts_in floor m.entries) lock (counter (count_in floor o)) q))
 
 -- what a look-up finds
 module _ (m : BTreeMap Lock Slot) (lock : Lock) (o : Option Slot) (is : o ≡ tree.get lock_cmp m lock) where
   pub cell_found : cell_in o ≡ finite.get (cells_in m.entries) lock
   cell_found = ap cell_in is ∙ sym (get-cells_in m.entries lock)
 
-  pub count_found : counter (count_in o) ≡ finite.get (counts_in m.entries) lock
-  count_found = ap (λ x. counter (count_in x)) is ∙ sym (get-counts_in m.entries lock)
+  pub count_found : (floor : ℕ) → counter (count_in floor o) ≡ finite.get (counts_in floor m.entries) lock
+  count_found floor = ap (λ x. counter (count_in floor x)) is ∙ sym (get-counts_in floor m.entries lock)
 
 number-counter : (n : ℕ) → number (counter n) ≡ n
 number-counter zero = refl
@@ -86,36 +86,45 @@ cell_of_slot : (o : Option Slot) (s : Slot) → s ≡ unwrap_or o (record { cell
 cell_of_slot None s e = ap (λ (x : Slot). x.cell) e
 cell_of_slot (Some v) s e = ap (λ (x : Slot). x.cell) e
 
-count_of_slot : (o : Option Slot) (s : Slot) → s ≡ unwrap_or o (record { cell = None; unsettled = 0 }) → s.unsettled ≡ count_in o
-count_of_slot None s e = ap (λ (x : Slot). x.unsettled) e
-count_of_slot (Some v) s e = ap (λ (x : Slot). x.unsettled) e
+pub nothing_above : (floor : ℕ) → 0 - floor ≡ 0
+nothing_above floor = omega arith
+
+count_of_slot : (floor : ℕ) (o : Option Slot) (s : Slot) → s ≡ unwrap_or o (record { cell = None; unsettled = 0 }) → s.unsettled - floor ≡ count_in floor o
+count_of_slot floor None s e = ap (λ (x : Slot). x.unsettled - floor) e ∙ nothing_above floor
+count_of_slot floor (Some v) s e = ap (λ (x : Slot). x.unsettled - floor) e
 
 -- a slot that is there, or an empty one where there is none
 module _ (m : BTreeMap Lock Slot) (lock : Lock) (o : Option Slot) (s : Slot) (was : s ≡ unwrap_or o (record { cell = None; unsettled = 0 })) (is : o ≡ tree.get lock_cmp m lock) where
   pub slot_cell : s.cell ≡ finite.get (cells_in m.entries) lock
   slot_cell = cell_of_slot o s was ∙ cell_found m lock o is
 
-  pub slot_count : counter s.unsettled ≡ finite.get (counts_in m.entries) lock
-  slot_count = ap counter (count_of_slot o s was) ∙ count_found m lock o is
+  pub slot_count : (floor : ℕ) → counter (s.unsettled - floor) ≡ finite.get (counts_in floor m.entries) lock
+  slot_count floor = ap counter (count_of_slot floor o s was) ∙ count_found m lock o is floor
 
-  pub slot_number : s.unsettled ≡ count_at (counts_in m.entries) lock
-  slot_number = sym (number-counter s.unsettled) ∙ ap number slot_count
+  pub slot_number : (floor : ℕ) → s.unsettled - floor ≡ count_at (counts_in floor m.entries) lock
+  slot_number floor = sym (number-counter (s.unsettled - floor)) ∙ ap number (slot_count floor)
+
+  -- where nothing is above the top, this slot is not
+  pub slot_below : (top : ℕ) → counts_in top m.entries ≡ finite.empty → s.unsettled ≤ top
+  slot_below top none =
+      let nothing : s.unsettled - top ≡ 0 = slot_number top ∙ ap (λ counts. count_at counts lock) none ∙ ap number (finite.get-empty lock_cmp lock) in
+      omega (arith, nothing)
 
   -- after another is written in its place
   module _ (n : BTreeMap Lock Slot) (next : Slot) (h : (q : Lock) → tree.get lock_cmp n q ≡ cond (eq_by_cmp lock_cmp lock q) (Some next) (tree.get lock_cmp m q)) where
     pub cells_changed : (f : Option ℕ → Option ℕ) → next.cell ≡ f s.cell → cells_in n.entries ≡ update (cells_in m.entries) lock f
     cells_changed f e = cells_written m n lock (Some next) h ∙ ap (λ c. set_at (cells_in m.entries) lock c) (e ∙ ap f slot_cell)
 
-    pub counts_changed : (f : ℕ → ℕ) → next.unsettled ≡ f s.unsettled → counts_in n.entries ≡ update (counts_in m.entries) lock (λ c. counter (f (number c)))
-    counts_changed f e = counts_written m n lock (Some next) h ∙ ap (λ c. set_at (counts_in m.entries) lock (counter c)) (e ∙ ap f slot_number)
+    pub counts_changed : (floor : ℕ) (f : ℕ → ℕ) → next.unsettled - floor ≡ f (s.unsettled - floor) → counts_in floor n.entries ≡ update (counts_in floor m.entries) lock (λ c. counter (f (number c)))
+    counts_changed floor f e = counts_written m n lock (Some next) h floor ∙ ap (λ c. set_at (counts_in floor m.entries) lock (counter c)) (e ∙ ap f (slot_number floor))
 
   -- after the same is written
   module _ (n : BTreeMap Lock Slot) (h : (q : Lock) → tree.get lock_cmp n q ≡ cond (eq_by_cmp lock_cmp lock q) (Some s) (tree.get lock_cmp m q)) where
     pub cells_kept : cells_in n.entries ≡ cells_in m.entries
     cells_kept = same_cells (cells_in m.entries) (cells_in n.entries) lock s.cell (cells_written m n lock (Some s) h) slot_cell
 
-    pub counts_kept : counts_in n.entries ≡ counts_in m.entries
-    counts_kept = same_cells (counts_in m.entries) (counts_in n.entries) lock (counter s.unsettled) (counts_written m n lock (Some s) h) slot_count
+    pub counts_kept : (floor : ℕ) → counts_in floor n.entries ≡ counts_in floor m.entries
+    counts_kept floor = same_cells (counts_in floor m.entries) (counts_in floor n.entries) lock (counter (s.unsettled - floor)) (counts_written m n lock (Some s) h floor) (slot_count floor)
 
 pub AreCells-none : (es : List (Lock × Slot)) → es ≡ [] → AreCells (cells_in es)
 AreCells-none es e = subst (λ x. AreCells (cells_in x)) (sym e) AreCells-empty
@@ -205,3 +214,30 @@ pub none_emptied : (m n : Counts) (k : Lock) → n ≡ set_at m k None → m ≡
 none_emptied m n k e none =
     e ∙ ap (λ x. set_at x k None) none
     ∙ update_same lock_cmp_total lock_cmp-IsAntisymmetric finite.empty k (λ _. None) (sym (finite.get-empty lock_cmp k))
+
+-- ---- the top
+
+fewer_above : (o : Option Slot) (top higher : ℕ) → top ≤ higher → counter (count_in top o) ≡ None → counter (count_in higher o) ≡ None
+fewer_above None top higher le none = refl
+fewer_above (Some s) top higher le none =
+    let nothing : s.unsettled - top ≡ 0 = sym (number-counter (s.unsettled - top)) ∙ ap number none in
+    let higher_yet : s.unsettled - higher ≡ 0 = omega (arith, nothing, le) in
+    ap counter higher_yet
+
+-- a higher top is one, too
+pub tops_higher : (es : List (Lock × Slot)) (top higher : ℕ) → top ≤ higher → counts_in top es ≡ finite.empty → counts_in higher es ≡ finite.empty
+tops_higher es top higher le none = finite.same_map lock_cmp_total lock_cmp-IsAntisymmetric _ _ (λ q.
+    get-counts_in higher es q
+    ∙ fewer_above (lookup (λ k. is_eq (lock_cmp q k)) es) top higher le (sym (get-counts_in top es q) ∙ ap (λ counts. finite.get counts q) none ∙ finite.get-empty lock_cmp q)
+    ∙ sym (finite.get-empty lock_cmp q))
+
+-- a slot that is not above it is written
+pub tops_written : (m n : BTreeMap Lock Slot) (lock : Lock) (next : Slot) → ((q : Lock) → tree.get lock_cmp n q ≡ cond (eq_by_cmp lock_cmp lock q) (Some next) (tree.get lock_cmp m q))
+    → (top : ℕ) → next.unsettled ≤ top → counts_in top m.entries ≡ finite.empty → counts_in top n.entries ≡ finite.empty
+tops_written m n lock next h top le none =
+    let nothing : next.unsettled - top ≡ 0 = omega (arith, le) in
+    none_emptied (counts_in top m.entries) (counts_in top n.entries) lock
+    (counts_written m n lock (Some next) h top ∙ ap (λ c. set_at (counts_in top m.entries) lock (counter c)) nothing) none
+
+pub tops-none : (es : List (Lock × Slot)) (top : ℕ) → es ≡ [] → counts_in top es ≡ finite.empty
+tops-none es top e = ap (counts_in top) e

@@ -6,7 +6,7 @@ use Rattle.std.specs.FinMap.{FinMap, get}
 use Rattle.spec_ledger.specs.declared.Lock.{Lock}
 use Rattle.spec_ledger.specs.declared.Inverse.{Inverse}
 use Rattle.spec_ledger.specs.declared.Inverse.TheVariants.{Keep, Subtract, Restore}
-use Rattle.spec_ledger.specs.Cells.{Cells, lock_cmp, counter, number, map_at, counter_at, update, AreCells, AreOfTheirTypes}
+use Rattle.spec_ledger.specs.Cells.{Cells, lock_cmp, counter, number, map_at, counter_at, update}
 
 -- a finite map from locks to numbers above 0
 abbrev pub Counts : Type 0
@@ -60,8 +60,3 @@ pub record Store : Type 0 where
 
 abbrev pub store_code : Coded Store
 store_code = code_by (Cells × Counts) (coded× coded_cells coded_cells) (λ s. (s.cells, s.unsettled)) (λ p. record { cells = p.0; unsettled = p.1 }) (λ _. refl)
-
--- what the type of a store keeps of its cells
-pub record AreKept (cells : Cells) : Type 0 where
-  pub are : AreCells cells
-  pub types : AreOfTheirTypes cells

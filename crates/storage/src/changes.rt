@@ -1,6 +1,7 @@
 // The end of a call's changes: they stand, or are taken back.
 ghost use Rattle.std.specs.Prelude.{◌≡◌, ◌≤◌, if◌then◌else◌, length, take, drop};
 ghost use Rattle.spec_ledger.specs.Book.{back_all, has_returned};
+ghost use Rattle.std.specs.FinMap as finite;
 ghost use Rattle.storage.specs.Counts.{AreUnsettled, closed_all};
 
 use crate::Cells;
@@ -57,6 +58,20 @@ pub fn end_all<A: Allocator + Copy>(cells: &mut Cells<A>, inverses: Vec<Inverse,
 {
     if stand {
         settle_all(cells, inverses);
+    } else {
+        take_all_back(cells, inverses);
+    }
+}
+
+/// Ends the changes of a call that ran alone: none but its own are unsettled. They stand, all at once, or are taken back, last first. Either takes no memory.
+pub fn end_alone<A: Allocator + Copy>(cells: &mut Cells<A>, inverses: Vec<Inverse, A>, stand: bool)
+    requires unsettled { AreUnsettled inverses.items cells.old.unsettled }
+    requires alone { closed_all inverses.items cells.old.unsettled ≡ finite.empty }
+    ensures cells { cells.new.cells ≡ (if stand then cells.old.cells else back_all inverses.items cells.old.cells) }
+    ensures unsettled { cells.new.unsettled ≡ finite.empty }
+{
+    if stand {
+        cells.settle_everything();
     } else {
         take_all_back(cells, inverses);
     }

@@ -1,10 +1,11 @@
 // Boosted storage: cells whose changes can be taken back without memory.
 #![tactic(auto)]
 
+mod cells_ahead;
 mod changes;
 mod effects;
 
-ghost use Rattle.std.specs.Prelude.{◌≡◌, ◌≢◌, ◌+◌, ◌-◌, ◌<◌, ◌^◌, ℕ, Some, None, IfOk, OnOk, OnErr, ◌↔◌, IsTrue, length};
+ghost use Rattle.std.specs.Prelude.{◌≡◌, ◌≢◌, ◌+◌, ◌-◌, ◌<◌, ◌^◌, ℕ, max, Some, None, IfOk, IfSome, OnOk, OnErr, ◌↔◌, IsTrue, length};
 ghost use Rattle.spec_ledger.specs.Cells.{cell_after, cells_after, reply_to, inverse_to, back, counter, set_at, update, number, AreCells, IsOfItsType, AreOfTheirTypes};
 ghost use Rattle.storage.specs.Counts.{opened, closed, IsUnsettled, count_at};
 ghost use Rattle.spec_ledger.specs.declared.Lock.{Lock};
@@ -12,7 +13,8 @@ ghost use Rattle.storage.specs.Slots.{cells_in, counts_in, cell_back};
 ghost use Rattle.std.specs.FinMap as finite;
 ghost use Rattle.std.specs.Iterator.{YieldsFirst, item_count};
 
-pub use changes::{end_all, returned, settle_all, take_all_back, take_back_to};
+pub use cells_ahead::Ahead;
+pub use changes::{end_all, end_alone, returned, settle_all, take_all_back, take_back_to};
 use effects::reads;
 pub use effects::{counter_lock, former_cell, inverse, lock, map_lock, mode, next_cell, reply};
 pub use spec_ledger::{CellKey, Inverse, Kind, Lock, NoMemory, Op, Reply, TraceStep};
@@ -26,7 +28,7 @@ use std::marker::Model;
 pub struct Slot {
     /// The number in the cell, or None where the cell is absent.
     pub cell: Option<u64>,
-    /// How many changes of the cell may still be taken back.
+    /// The store's floor, and one more for each change of the cell that may still be taken back; or less, where there is none.
     pub unsettled: u64,
 }
 
@@ -41,8 +43,7 @@ fn note_types(lock: Lock, cell: Option<u64>)
 
 /// A lock's slot, an empty one where there is none.
 fn slot_at<A: Allocator>(slots: &BTreeMap<Lock, Slot, A>, lock: Lock) -> Slot
-    ensures cell { result.cell ≡ finite.get (cells_in slots.now.entries) lock }
-    ensures count { counter result.unsettled ≡ finite.get (counts_in slots.now.entries) lock }
+    ensures { result.cell ≡ finite.get (cells_in slots.now.entries) lock }
 {
     match slots.get(&lock) {
         None => Slot {
@@ -56,51 +57,82 @@ fn slot_at<A: Allocator>(slots: &BTreeMap<Lock, Slot, A>, lock: Lock) -> Slot
 /// Drops a slot.
 fn drop_slot<A: Allocator>(slots: &mut BTreeMap<Lock, Slot, A>, lock: Lock)
     ensures cells { cells_in slots.new.entries ≡ set_at (cells_in slots.old.entries) lock None }
-    ensures counts { counts_in slots.new.entries ≡ set_at (counts_in slots.old.entries) lock None }
+    ensures counts { (floor : ℕ) → counts_in floor slots.new.entries ≡ set_at (counts_in floor slots.old.entries) lock None }
 {
     slots.remove(&lock);
 }
 
-/// Does an operation on a lock's slot, in place or in a new one, and answers what the cell held. One change more of the lock is unsettled.
+fn higher(a: u64, b: u64) -> u64
+    ensures { result ≡ max a b }
+{
+    if a < b { b } else { a }
+}
+
+/// The number of a slot with one unsettled change more. None where there is no such number of 64 bits.
+fn number_more(number: u64, floor: u64) -> Option<u64>
+    ensures { IfSome result (λ next. next - floor ≡ (number - floor) + 1) }
+{
+    let next = higher(number, floor).checked_add(1)?;
+    Some(next)
+}
+
+/// How many changes a slot of this number has unsettled.
+fn count_above(number: u64, floor: u64) -> u64
+    ensures { result ≡ number - floor }
+{
+    number.saturating_sub(floor)
+}
+
+/// Does an operation on a lock's slot, in place or in a new one, and answers what the cell held, and the highest number of a slot now. One change
+/// more of the lock is unsettled.
 fn open_slot<A: Allocator + Copy>(
     slots: &mut BTreeMap<Lock, Slot, A>,
+    floor: u64,
+    top: u64,
     lock: Lock,
     op: Op,
-) -> Result<Option<u64>, NoMemory>
-    ensures before { IfOk result (λ cell. cell ≡ finite.get (cells_in slots.old.entries) lock) }
+) -> Result<(Option<u64>, u64), NoMemory>
+    requires { counts_in top slots.old.entries ≡ finite.empty }
+    ensures before { IfOk result (λ r. r.0 ≡ finite.get (cells_in slots.old.entries) lock) }
     ensures cells { OnOk result (cells_in slots.new.entries ≡ update (cells_in slots.old.entries) lock (cell_after op)) }
-    ensures counts { OnOk result (counts_in slots.new.entries ≡ update (counts_in slots.old.entries) lock (λ n. counter (number n + 1))) }
+    ensures counts { OnOk result (counts_in floor slots.new.entries ≡ update (counts_in floor slots.old.entries) lock (λ n. counter (number n + 1))) }
     ensures types { OnOk result (AreOfTheirTypes (cells_in slots.old.entries) → AreOfTheirTypes (cells_in slots.new.entries)) }
+    ensures below { IfOk result (λ r. counts_in r.1 slots.new.entries ≡ finite.empty) }
     ensures cells_at_err { OnErr result (cells_in slots.new.entries ≡ cells_in slots.old.entries) }
-    ensures counts_at_err { OnErr result (counts_in slots.new.entries ≡ counts_in slots.old.entries) }
+    ensures counts_at_err { OnErr result (counts_in floor slots.new.entries ≡ counts_in floor slots.old.entries) }
+    ensures below_at_err { OnErr result (counts_in top slots.new.entries ≡ finite.empty) }
 {
     let slot = slots.entry(lock)?.or_insert(Slot {
         cell: None,
         unsettled: 0,
     });
-    if slot.unsettled == u64::MAX {
+    let Some(number) = number_more(slot.unsettled, floor) else {
         return Err(NoMemory);
-    }
+    };
     let before = slot.cell;
     let next = next_cell(op, before);
     note_types(lock, next);
     *slot = Slot {
         cell: next,
-        unsettled: slot.unsettled + 1,
+        unsettled: number,
     };
-    Ok(before)
+    Ok((before, higher(top, number)))
 }
 
 /// Takes a change back in a lock's slot, in place, and drops the slot where that leaves it empty. One change less of the lock is unsettled.
 fn close_slot<A: Allocator + Copy>(
     slots: &mut BTreeMap<Lock, Slot, A>,
+    floor: u64,
+    _top: u64,
     lock: Lock,
     inverse: Inverse,
 )
-    requires { 0 < count_at (counts_in slots.old.entries) lock }
+    requires unsettled { 0 < count_at (counts_in floor slots.old.entries) lock }
+    requires below { counts_in _top slots.old.entries ≡ finite.empty }
     ensures cells { cells_in slots.new.entries ≡ update (cells_in slots.old.entries) lock (cell_back inverse) }
-    ensures counts { counts_in slots.new.entries ≡ update (counts_in slots.old.entries) lock (λ n. counter (number n - 1)) }
+    ensures counts { counts_in floor slots.new.entries ≡ update (counts_in floor slots.old.entries) lock (λ n. counter (number n - 1)) }
     ensures types { AreOfTheirTypes (cells_in slots.old.entries) → AreOfTheirTypes (cells_in slots.new.entries) }
+    ensures below { counts_in _top slots.new.entries ≡ finite.empty }
 {
     let Some(slot) = slots.get_mut(&lock) else {
         unreachable!()
@@ -110,7 +142,8 @@ fn close_slot<A: Allocator + Copy>(
         unsettled: slot.unsettled - 1,
     };
     note_types(lock, next.cell);
-    match (next.cell, next.unsettled) {
+    let left = count_above(next.unsettled, floor);
+    match (next.cell, left) {
         (None, 0) => drop_slot(slots, lock),
         _ => *slot = next,
     }
@@ -119,14 +152,18 @@ fn close_slot<A: Allocator + Copy>(
 /// Puts a number into a lock's slot, in place or in a new one. Its unsettled changes stay.
 fn fill_slot<A: Allocator + Copy>(
     slots: &mut BTreeMap<Lock, Slot, A>,
+    _floor: u64,
+    _top: u64,
     lock: Lock,
     value: u64,
 ) -> Result<(), NoMemory>
     ensures cells { OnOk result (cells_in slots.new.entries ≡ finite.insert (cells_in slots.old.entries) lock value) }
-    ensures counts { OnOk result (counts_in slots.new.entries ≡ counts_in slots.old.entries) }
+    ensures counts { OnOk result (counts_in _floor slots.new.entries ≡ counts_in _floor slots.old.entries) }
+    ensures tops { OnOk result (counts_in _top slots.new.entries ≡ counts_in _top slots.old.entries) }
     ensures types { OnOk result (AreOfTheirTypes (cells_in slots.old.entries) → AreOfTheirTypes (cells_in slots.new.entries)) }
     ensures cells_at_err { OnErr result (cells_in slots.new.entries ≡ cells_in slots.old.entries) }
-    ensures counts_at_err { OnErr result (counts_in slots.new.entries ≡ counts_in slots.old.entries) }
+    ensures counts_at_err { OnErr result (counts_in _floor slots.new.entries ≡ counts_in _floor slots.old.entries) }
+    ensures tops_at_err { OnErr result (counts_in _top slots.new.entries ≡ counts_in _top slots.old.entries) }
 {
     let slot = slots.entry(lock)?.or_insert(Slot {
         cell: None,
@@ -183,6 +220,10 @@ impl<'a> Iterator for Entries<'a> {
 #[derive(Drop)]
 pub struct Cells<A: Allocator = Global> {
     slots: BTreeMap<Lock, Slot, A>,
+    /// What is not above this number of a slot is settled. So it rises where all changes stand.
+    floor: u64,
+    /// No slot's number is above this one.
+    top: u64,
 }
 
 impl<A: Allocator> Model for Cells<A> {
@@ -192,12 +233,11 @@ impl<A: Allocator> Model for Cells<A> {
 
     ghost coded = { store_code };
 
-    ghost use Rattle.storage.specs.Counts.{AreKept};
-    ghost use Rattle.storage.specs.Slots.{cells_in, counts_in};
+    ghost use Rattle.storage.specs.Slots.{cells_in, counts_in, AreKept};
 
-    ghost view = { λ a. record { cells = cells_in a.slots.entries; unsettled = counts_in a.slots.entries } };
+    ghost view = { λ a. record { cells = cells_in a.slots.entries; unsettled = counts_in a.floor a.slots.entries } };
 
-    ghost invariant = { λ a. AreKept (cells_in a.slots.entries) };
+    ghost invariant = { λ a. AreKept a.top a.slots.entries };
 }
 
 impl<A: Allocator + Copy> Cells<A> {
@@ -208,6 +248,8 @@ impl<A: Allocator + Copy> Cells<A> {
     {
         Cells {
             slots: BTreeMap::new(alloc),
+            floor: 0,
+            top: 0,
         }
     }
 
@@ -271,7 +313,11 @@ impl<A: Allocator + Copy> Cells<A> {
                 (lock, slot)
             })
             .collect(alloc)?;
-        Ok(Cells { slots })
+        Ok(Cells {
+            slots,
+            floor: 0,
+            top: 0,
+        })
     }
 
     /// Puts a number into a cell. No counter is put at 0. Its unsettled changes stay.
@@ -281,7 +327,7 @@ impl<A: Allocator + Copy> Cells<A> {
         ensures unsettled { OnOk result (self.new.unsettled ≡ self.old.unsettled) }
         ensures err { OnErr result (self.new ≡ self.old) }
     {
-        fill_slot(&mut self.slots, lock, value)?;
+        fill_slot(&mut self.slots, self.floor, self.top, lock, value)?;
         Ok(())
     }
 
@@ -316,7 +362,8 @@ impl<A: Allocator + Copy> Cells<A> {
             let cell = slot_at(&self.slots, lock).cell;
             return Ok((reply(op, cell), inverse(op, cell)));
         }
-        let cell = open_slot(&mut self.slots, lock, op)?;
+        let (cell, top) = open_slot(&mut self.slots, self.floor, self.top, lock, op)?;
+        self.top = top;
         let inverse = inverse(op, cell);
         Ok((reply(op, cell), inverse))
     }
@@ -330,9 +377,13 @@ impl<A: Allocator + Copy> Cells<A> {
         match inverse {
             Inverse::Keep => (),
             Inverse::Subtract(place, _) => {
-                close_slot(&mut self.slots, counter_lock(place), inverse);
+                let lock = counter_lock(place);
+                close_slot(&mut self.slots, self.floor, self.top, lock, inverse);
             }
-            Inverse::Restore(place, _) => close_slot(&mut self.slots, map_lock(place), inverse),
+            Inverse::Restore(place, _) => {
+                let lock = map_lock(place);
+                close_slot(&mut self.slots, self.floor, self.top, lock, inverse);
+            }
         }
     }
 
@@ -344,17 +395,38 @@ impl<A: Allocator + Copy> Cells<A> {
     {
         match inverse {
             Inverse::Keep => (),
-            Inverse::Subtract(place, _) => settle_slot(&mut self.slots, counter_lock(place)),
-            Inverse::Restore(place, _) => settle_slot(&mut self.slots, map_lock(place)),
+            Inverse::Subtract(place, _) => {
+                let lock = counter_lock(place);
+                settle_slot(&mut self.slots, self.floor, self.top, lock);
+            }
+            Inverse::Restore(place, _) => {
+                let lock = map_lock(place);
+                settle_slot(&mut self.slots, self.floor, self.top, lock);
+            }
         }
+    }
+
+    /// Lets all changes stand, in one step. A cell that is absent keeps its place until its lock is asked for again.
+    pub fn settle_everything(&mut self)
+        ensures cells { self.new.cells ≡ self.old.cells }
+        ensures unsettled { self.new.unsettled ≡ finite.empty }
+    {
+        self.floor = self.top;
     }
 }
 
 /// One change less of a lock.
-fn settle_slot<A: Allocator + Copy>(slots: &mut BTreeMap<Lock, Slot, A>, lock: Lock)
-    requires { 0 < count_at (counts_in slots.old.entries) lock }
+fn settle_slot<A: Allocator + Copy>(
+    slots: &mut BTreeMap<Lock, Slot, A>,
+    floor: u64,
+    top: u64,
+    lock: Lock,
+)
+    requires unsettled { 0 < count_at (counts_in floor slots.old.entries) lock }
+    requires below { counts_in top slots.old.entries ≡ finite.empty }
     ensures cells { cells_in slots.new.entries ≡ cells_in slots.old.entries }
-    ensures counts { counts_in slots.new.entries ≡ update (counts_in slots.old.entries) lock (λ n. counter (number n - 1)) }
+    ensures counts { counts_in floor slots.new.entries ≡ update (counts_in floor slots.old.entries) lock (λ n. counter (number n - 1)) }
+    ensures below { counts_in top slots.new.entries ≡ finite.empty }
 {
-    close_slot(slots, lock, Inverse::Keep);
+    close_slot(slots, floor, top, lock, Inverse::Keep);
 }

@@ -57,12 +57,12 @@ pub fn deployed<A: Allocator + Copy>(alloc: A, bytes: &[u8]) -> Result<Deployed<
 
 /// The example contract.
 pub fn example<A: Allocator + Copy>(alloc: A) -> Result<Deployed<A>, SampleRefusal> {
-    deployed(alloc, &EXAMPLE)
+    deployed(alloc, EXAMPLE)
 }
 
 /// The contract of the first module.
 pub fn first<A: Allocator + Copy>(alloc: A) -> Result<Deployed<A>, SampleRefusal> {
-    deployed(alloc, &FIRST_MODULE)
+    deployed(alloc, FIRST_MODULE)
 }
 
 /// A call of the contract of this number.

@@ -4,8 +4,6 @@
 mod contracts;
 mod failing_allocator;
 mod modules;
-#[cfg(test)]
-mod tests;
 
 pub use crate::failing_allocator::Ration;
 pub use contracts::{SampleRefusal, call, deployed, example, first, typed};

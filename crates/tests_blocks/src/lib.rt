@@ -1,6 +1,6 @@
 //! Tests of memory, of the machine, of orders and of blocks that are no rows of data: memory and machines in heaps that refuse, what is sealed that ran
-//! elsewhere, orders played to their end with memory refused at each block, counts without what they count in small heaps, random bytes, and what refusals
-//! say. There is no code here.
+//! elsewhere, orders played to their end with memory refused at each block, what takes memory, where each block of it is refused in turn, counts without what
+//! they count in small heaps, random bytes, and what refusals say. There is no code here.
 #![tactic(auto)]
 
 #[cfg(test)]
@@ -19,6 +19,8 @@ mod noise;
 mod programs;
 #[cfg(test)]
 mod refusals;
+#[cfg(test)]
+mod refused_in_turn;
 #[cfg(test)]
 mod refused_memory;
 #[cfg(test)]

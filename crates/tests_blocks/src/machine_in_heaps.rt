@@ -50,7 +50,7 @@ fn assert_turns<'a, A: Allocator + Copy>(
     }
 }
 
-const TURNS_OF_A_GROWTH: [Turn; 3] = [
+const TURNS_OF_A_GROWTH: &[Turn] = &[
     Turn::Stepped,
     Turn::Stepped,
     Turn::Done(Outcome::Returned(Some(Value::I32(1)))),
@@ -60,14 +60,14 @@ const TURNS_OF_A_GROWTH: [Turn; 3] = [
 #[test]
 fn growth_takes_no_memory(rt: HostRuntime) -> Result<(), Fail> {
     let heap = LocalHeap::new(rt.alloc(), 20_000)?;
-    let contracts = [deployed(&heap, &PAGES)?];
+    let contracts = [deployed(&heap, PAGES)?];
     let call = call(rt.alloc(), 0, "by_1023", &[], 10)?;
     let mut machine = started(&heap, &contracts, &call)?;
-    assert_turns(&rt, &mut machine, &TURNS_OF_A_GROWTH);
+    assert_turns(&rt, &mut machine, TURNS_OF_A_GROWTH);
     Ok(())
 }
 
-const TURNS_WITHOUT_A_PIECE: [Turn; 5] = [
+const TURNS_WITHOUT_A_PIECE: &[Turn] = &[
     Turn::Stepped,
     Turn::Stepped,
     Turn::NoMemory,
@@ -82,7 +82,7 @@ fn assert_storing(
     alloc: Global,
     turns: &[Turn],
 ) -> Result<(), Fail> {
-    let contracts = [deployed(heap, &STORING)?];
+    let contracts = [deployed(heap, STORING)?];
     let call = call(alloc, 0, "put", &[], 10)?;
     let mut machine = started(heap, &contracts, &call)?;
     assert_turns(rt, &mut machine, turns);
@@ -94,5 +94,5 @@ fn assert_storing(
 #[test]
 fn want_of_memory_is_the_last_answer(rt: HostRuntime) -> Result<(), Fail> {
     let heap = LocalHeap::new(rt.alloc(), 4_500)?;
-    assert_storing(&rt, &heap, rt.alloc(), &TURNS_WITHOUT_A_PIECE)
+    assert_storing(&rt, &heap, rt.alloc(), TURNS_WITHOUT_A_PIECE)
 }

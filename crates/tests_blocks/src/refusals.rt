@@ -1,8 +1,8 @@
 //! What refusals say to people, what is wrong and where; and the codes of those of the debugger.
 
 use crate::assertions::{equal, given};
-use block::{BlockRefusal, WriteRefusal};
-use byte_sinks::SinkFault;
+use block::BlockRefusal;
+use byte_sinks::{SinkFault, WriteRefusal};
 use debugger::session::Refusal;
 use interp::readers::BytesRefusal;
 use memory::StoreRefusal;

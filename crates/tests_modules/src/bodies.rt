@@ -4,7 +4,7 @@ use rand_core::Rng;
 use std::alloc::{AllocError, Global};
 
 /// Opcodes behind which nothing stands.
-pub const BARE: [u8; 71] = [
+pub const BARE: &[u8] = &[
     0x00, 0x01, 0x0F, 0x1A, 0x1B, 0x45, 0x46, 0x47, 0x48, 0x49, 0x4A, 0x4B, 0x4C, 0x4D, 0x4E, 0x4F,
     0x50, 0x51, 0x52, 0x53, 0x54, 0x55, 0x56, 0x57, 0x58, 0x59, 0x5A, 0x67, 0x68, 0x69, 0x6A, 0x6B,
     0x6C, 0x6D, 0x6E, 0x6F, 0x70, 0x71, 0x72, 0x73, 0x74, 0x75, 0x76, 0x77, 0x78, 0x79, 0x7A, 0x7B,
@@ -14,7 +14,7 @@ pub const BARE: [u8; 71] = [
 /// Opcodes with one number: branches, calls, locals and globals.
 pub const NUMBERED: [u8; 8] = [0x0C, 0x0D, 0x10, 0x20, 0x21, 0x22, 0x23, 0x24];
 /// Loads and stores.
-pub const ACCESSES: [u8; 19] = [
+pub const ACCESSES: &[u8] = &[
     0x28, 0x29, 0x2C, 0x2D, 0x2E, 0x2F, 0x30, 0x31, 0x32, 0x33, 0x34, 0x35, 0x36, 0x37, 0x3A, 0x3B,
     0x3C, 0x3D, 0x3E,
 ];
@@ -75,7 +75,7 @@ fn put_plain(source: &mut Source, out: &mut Vec<u8>, types: u32) -> Result<(), A
             put_number(out, any_number(source))
         }
         1 => {
-            let opcode = one_of(source, &ACCESSES);
+            let opcode = one_of(source, ACCESSES);
             put_opcode(source, out, opcode)?;
             put_number(
                 out,
@@ -96,7 +96,7 @@ fn put_plain(source: &mut Source, out: &mut Vec<u8>, types: u32) -> Result<(), A
         }
         5 => put_constant(source, out),
         _ => {
-            let opcode = one_of(source, &BARE);
+            let opcode = one_of(source, BARE);
             put_opcode(source, out, opcode)
         }
     }

@@ -32,17 +32,17 @@ fn is_example<A: Allocator>(module: &Module<A>) -> bool {
 #[test]
 fn in_an_arena(rt: HostRuntime) -> Result<(), Fail> {
     let arena = Bump::new(rt.alloc());
-    let module = load(&arena, &EXAMPLE)?;
+    let module = load(&arena, EXAMPLE)?;
     holds(&rt, &"the example", is_example(&module));
     let mut out = Vec::new(&arena);
     encode(&module, &mut out)?;
-    equal(&rt, &"its bytes", &out.as_slice(), &EXAMPLE.as_slice());
+    equal(&rt, &"its bytes", &out.as_slice(), &EXAMPLE);
     Ok(())
 }
 
 // How many functions the example has in the heap.
 fn functions_in(heap: &LocalHeap) -> Result<usize, LoadRefusal> {
-    Ok(load(heap, &EXAMPLE)?.funcs.len())
+    Ok(load(heap, EXAMPLE)?.funcs.len())
 }
 
 // How many functions the example has in a heap of this size, which is given back.
@@ -90,7 +90,7 @@ fn bytes_before_stay(rt: HostRuntime) -> Result<(), Fail> {
 // A buffer that can't grow far enough is as it was.
 #[test]
 fn a_full_buffer_is_as_it_was(rt: HostRuntime) -> Result<(), Fail> {
-    let module = load(rt.alloc(), &EXAMPLE)?;
+    let module = load(rt.alloc(), EXAMPLE)?;
     let heap = LocalHeap::new(rt.alloc(), 150)?;
     let mut bytes = Vec::new(&heap);
     bytes.push(7)?;

@@ -23,7 +23,7 @@ fn copied_twice<'h>(
     first: &LocalHeap,
     second: &'h LocalHeap,
 ) -> Result<Contract<&'h LocalHeap>, Fail> {
-    let copy = typed(a, &EXAMPLE)?.copy_in(first)?;
+    let copy = typed(a, EXAMPLE)?.copy_in(first)?;
     let deployed = deploy(&first, copy).ok().ok_or("not linked")?;
     Ok(deployed.copy_in(second)?)
 }
@@ -64,7 +64,7 @@ fn is_copied(
 // A refused copy leaves the heap empty.
 #[test]
 fn copies_in_small_heaps(rt: HostRuntime) -> Result<(), Fail> {
-    let deployed = deployed(rt.alloc(), &EXAMPLE)?;
+    let deployed = deployed(rt.alloc(), EXAMPLE)?;
     let mut refused = 0u32;
     let mut copied = 0u32;
     for size in 4..512usize {
@@ -96,7 +96,7 @@ fn unlinked<'h>(
     a: Global,
     heap: &'h LocalHeap,
 ) -> Result<(Valid<&'h LocalHeap>, LinkRefusal), Fail> {
-    let copy = typed(a, &EXAMPLE)?.copy_in(heap)?;
+    let copy = typed(a, EXAMPLE)?.copy_in(heap)?;
     let _blocks = filled(a, heap)?;
     Ok(deploy(&heap, copy).err().ok_or("deployed")?)
 }
@@ -115,7 +115,7 @@ fn host_calls_without_room(rt: HostRuntime) -> Result<(), Fail> {
 // What is answered to the example where the check works in a heap of so many bytes, which is empty again behind it.
 fn verdict_by(rt: &impl Abort, a: Global, bytes: usize) -> Result<Verdict, Fail> {
     let heap = LocalHeap::new(a, bytes)?;
-    let verdict = verdict_in(a, &&heap, load(a, &EXAMPLE)?);
+    let verdict = verdict_in(a, &&heap, load(a, EXAMPLE)?);
     equal(rt, &("used of", bytes), &heap.used(), &0);
     Ok(verdict)
 }
@@ -140,7 +140,7 @@ fn working_memory_in_small_heaps(rt: HostRuntime) -> Result<(), Fail> {
 // The module of one function of 1,000 `nop`.
 fn nops(a: Global) -> Result<Vec<u8>, AllocError> {
     let mut bytes = HEADER.to_vec(a)?;
-    bytes.extend_from_slice(&FRONT)?;
+    bytes.extend_from_slice(FRONT)?;
     for _ in 0..1_000 {
         bytes.push(0x01)?;
     }
@@ -149,7 +149,7 @@ fn nops(a: Global) -> Result<Vec<u8>, AllocError> {
 }
 
 // Its type section, its function section, and its code section up to the first `nop`.
-const FRONT: [u8; 17] = [
+const FRONT: &[u8] = &[
     0x01, 0x04, 0x01, 0x60, 0x00, 0x00, 0x03, 0x02, 0x01, 0x00, 0x0A, 0xED, 0x07, 0x01, 0xEA, 0x07,
     0x00,
 ];

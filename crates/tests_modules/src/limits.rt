@@ -1,5 +1,5 @@
 ghost use Rattle.std.specs.Prelude.{◌≡◌, true, map, IfOk};
-ghost use Rattle.spec_syntax.specs.Limits.{counts_from};
+ghost use Rattle.spec_modules.specs.Limits.{counts_from};
 ghost use Rattle.module_tree.specs.View.{ordinals};
 ghost use Rattle.module_tree.specs.ModuleView.{all_numbered, func_ordinals, data_ordinals};
 

@@ -1,4 +1,5 @@
 // A thousand modules, copied, and written as text and assembled again.
+use crate::assertions::equal;
 use crate::bodies::{ACCESSES, BARE, NUMBERED, OPENINGS, OTHERS, SIZES};
 use crate::both::encoded;
 use crate::modules::{SECTION_NUMBERS, module};
@@ -88,22 +89,37 @@ fn made(source: &Source, from: usize, size: usize) -> usize {
     kinds
 }
 
+/// Opcodes of which each is to be made.
+const OPCODES: &[(&str, &[u8])] = &[
+    ("bare", BARE),
+    ("numbered", &NUMBERED),
+    ("accesses", ACCESSES),
+    ("sizes", &SIZES),
+    ("openings", &OPENINGS),
+    ("others", &OTHERS),
+];
+
+/// Where kinds of things are counted, in how many places, and how many of them are to be made.
+const KINDS: &[(&str, usize, usize, usize)] = &[
+    ("sections", SECTIONS, 16, SECTION_NUMBERS.len()),
+    ("imports", IMPORTS, 8, 4),
+    ("exports", EXPORTS, 8, 4),
+    ("names", NAMES, 32, 14),
+];
+
 #[test]
 fn a_thousand_modules_come_back(rt: HostRuntime) -> Result<(), Fail> {
     let mut source = Source {
         random: Pcg32::new(0, 54),
         made: [0; THINGS],
     };
-    assert_eq!(rt; fault(rt.alloc(), &mut source, 1000)?, None);
-    assert_eq!(rt; unmade(&source, &BARE), None);
-    assert_eq!(rt; unmade(&source, &NUMBERED), None);
-    assert_eq!(rt; unmade(&source, &ACCESSES), None);
-    assert_eq!(rt; unmade(&source, &SIZES), None);
-    assert_eq!(rt; unmade(&source, &OPENINGS), None);
-    assert_eq!(rt; unmade(&source, &OTHERS), None);
-    assert_eq!(rt; made(&source, SECTIONS, 16), SECTION_NUMBERS.len());
-    assert_eq!(rt; made(&source, IMPORTS, 8), 4);
-    assert_eq!(rt; made(&source, EXPORTS, 8), 4);
-    assert_eq!(rt; made(&source, NAMES, 32), 14);
+    let fault = fault(rt.alloc(), &mut source, 1000)?;
+    equal(&rt, &"a thousand modules", &fault, &None);
+    for (name, opcodes) in OPCODES {
+        equal(&rt, name, &unmade(&source, *opcodes), &None);
+    }
+    for (name, from, size, count) in KINDS {
+        equal(&rt, name, &made(&source, *from, *size), count);
+    }
     Ok(())
 }

@@ -108,7 +108,7 @@ fn most_positions(alloc: Global) -> Option<Vec<u8>> {
     }
     let mut sink = MemorySink::new(alloc, usize::MAX, Failures::none());
     write_block(alloc, &block, &mut sink).ok()?;
-    sink.bytes().to_vec(alloc).ok()
+    Some(sink.into_bytes())
 }
 
 /// The lines of the last of them, and those after it.

@@ -23,3 +23,5 @@ mod orders;
 mod progress;
 #[cfg(test)]
 mod replacing;
+#[cfg(test)]
+mod sinks;

@@ -127,5 +127,5 @@ fn reaches_the_streams_of_the_machine(rt: HostRuntime) {
     let mut out = Stream::new(rt.stdout());
     let line = put_all(&mut out, b"a line\n");
     let nothing = out.put_some(b"");
-    assert_eq!(rt; (line, nothing), (Ok(()), Ok(0)));
+    equal(&rt, &"a line", &(line, nothing), &(Ok(()), Ok(0)));
 }

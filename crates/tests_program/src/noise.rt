@@ -1,5 +1,6 @@
 //! Random texts, and random ones of the letters that texts of calls are made of: reading answers, with a line that the text has.
 
+use crate::assertions::holds;
 use rand_core::Rng;
 use rand_pcg::Pcg32;
 use std::alloc::{AllocError, Global};
@@ -41,7 +42,7 @@ fn random_texts_of_calls(rt: HostRuntime) -> Result<(), AllocError> {
     let mut random = Pcg32::new(42, 54);
     for size in [10, 20, 30, 40, 50, 100, 200, 300, 1_000_000] {
         for text in &noise(rt.alloc(), &mut random, size)? {
-            assert!(rt; is_answered(rt.alloc(), text), "{size}");
+            holds(&rt, &size, is_answered(rt.alloc(), text));
         }
     }
     Ok(())

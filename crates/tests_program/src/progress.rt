@@ -1,7 +1,7 @@
 //! That a line of progress is said at most four times a second, is taken away once, and is not said where it is not to be; and what is said of calls that
 //! run ahead of one that is debugged.
 
-use crate::assertions::equal;
+use crate::assertions::{equal, holds};
 use pace::{Pace, Step};
 use std::fmt::Display;
 use std::io::{self, Print};
@@ -78,20 +78,13 @@ fn at_most_four_lines_a_second(rt: HostRuntime) -> Result<(), Fail> {
         }
         progress.wipe();
         progress.wipe();
-        let wipes = lines.min(1);
-        assert_eq!(rt;
-            screen.lines.load(Ordering::SeqCst),
-            lines,
-            "{pause} {calls}"
-        );
-        assert_eq!(rt;
-            screen.wipes.load(Ordering::SeqCst),
-            wipes,
-            "{pause} {calls}"
-        );
+        let said = screen.lines.load(Ordering::SeqCst);
+        let wiped = screen.wipes.load(Ordering::SeqCst);
+        equal(&rt, &(pause, calls), &(said, wiped), &(lines, lines.min(1)));
     }
     let words = without_quiet(rt.alloc(), &["mine", "--quiet", "w"])?;
-    assert!(rt; words.quiet && words.others.as_slice() == ["mine", "w"].as_slice());
+    let are_others = words.others.as_slice() == ["mine", "w"].as_slice();
+    holds(&rt, &"quiet", words.quiet && are_others);
     Ok(())
 }
 

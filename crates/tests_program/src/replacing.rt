@@ -1,5 +1,6 @@
 //! A file is replaced by a temporary one, at each failure in turn.
 
+use crate::assertions::{equal, holds};
 use crate::made::Step::{Make, Put, Rename, Sync, SyncFolder};
 use crate::made::{Contents, Made, Step, taken};
 use std::alloc::Global;
@@ -9,7 +10,7 @@ use std::test::Fail;
 use wblock_io::{Disk, Files, write_file};
 
 /// What replaces a file by one of three bytes: it is written down to the disk before it is renamed, and the folder after that.
-const REPLACING: [Step; 6] = [Make, Put, Put, Sync, Rename, SyncFolder];
+const REPLACING: &[Step] = &[Make, Put, Put, Sync, Rename, SyncFolder];
 
 const OLD: &[u8] = b"old";
 
@@ -42,8 +43,9 @@ fn writes_a_file_down_before_it_is_renamed(rt: HostRuntime) -> Result<(), Fail> 
         let contents = Rc::new(alloc, RefCell::new(contents))?;
         let written = is_written(alloc, &contents);
         let contents = taken(contents)?;
-        assert!(rt; written && contents.holds("w", Some(NEW)) && is_clean(&contents));
-        assert_eq!(rt; contents.steps(), REPLACING.as_slice());
+        let is_new = written && contents.holds("w", Some(NEW)) && is_clean(&contents);
+        holds(&rt, &("the new file", is_there), is_new);
+        equal(&rt, &("the steps", is_there), &contents.steps(), &REPLACING);
     }
     Ok(())
 }
@@ -81,11 +83,11 @@ fn keeps_the_old_file_or_the_new_one_at_each_failure(rt: HostRuntime) -> Result<
         let Some(survived) = survives(alloc, calls)? else {
             break;
         };
-        assert!(rt; survived, "after {calls} calls");
+        holds(&rt, &("calls", calls), survived);
         failures = calls + 1;
     }
     // four looks, three openings, two puts, two syncs and the renaming
-    assert_eq!(rt; failures, 12);
+    equal(&rt, &"failures", &failures, &12);
     Ok(())
 }
 
@@ -99,7 +101,8 @@ fn takes_away_what_a_killed_run_left(rt: HostRuntime) -> Result<(), Fail> {
     let contents = Rc::new(alloc, RefCell::new(contents))?;
     let written = is_written(alloc, &contents);
     let contents = taken(contents)?;
-    assert!(rt; written && contents.holds("w", Some(NEW)) && is_clean(&contents));
+    let is_new = written && contents.holds("w", Some(NEW)) && is_clean(&contents);
+    holds(&rt, &"the new file alone", is_new);
     Ok(())
 }
 
@@ -112,8 +115,10 @@ fn leaves_alone_what_a_living_run_writes(rt: HostRuntime) -> Result<(), Fail> {
     let contents = Rc::new(alloc, RefCell::new(contents))?;
     let written = is_written(alloc, &contents);
     let contents = taken(contents)?;
-    assert!(rt; written && contents.holds("w", Some(NEW)));
-    assert!(rt; contents.holds("w.part-0", Some(OLD)) && contents.holds("w.part-1", None));
+    let is_new = written && contents.holds("w", Some(NEW));
+    holds(&rt, &"the new file", is_new);
+    let is_left = contents.holds("w.part-0", Some(OLD)) && contents.holds("w.part-1", None);
+    holds(&rt, &"what another run writes", is_left);
     Ok(())
 }
 
@@ -140,6 +145,7 @@ fn keeps_nothing_of_a_draft_that_is_abandoned(rt: HostRuntime) -> Result<(), Fai
     let contents = Rc::new(alloc, RefCell::new(contents))?;
     let abandoned = is_abandoned(alloc, &contents);
     let contents = taken(contents)?;
-    assert!(rt; abandoned && contents.holds("w", Some(OLD)) && is_clean(&contents));
+    let is_old = abandoned && contents.holds("w", Some(OLD)) && is_clean(&contents);
+    holds(&rt, &"the old file", is_old);
     Ok(())
 }

@@ -206,7 +206,7 @@ const TWO_MOVERS: Script = Script {
 };
 
 /// What call 0 did in the rows of levels.
-const OF_LEVELS: [TraceStep; 12] = [
+const OF_LEVELS: &[TraceStep] = &[
     ADDED_5,
     TraceStep::Opened,
     ADDED_2,
@@ -222,7 +222,7 @@ const OF_LEVELS: [TraceStep; 12] = [
 ];
 
 /// And call 1.
-const OF_OTHER_LEVELS: [TraceStep; 8] = [
+const OF_OTHER_LEVELS: &[TraceStep] = &[
     ADDED_8,
     TraceStep::Did(Op::Add(SEVEN, 16), Reply::Nothing),
     TraceStep::Opened,
@@ -266,8 +266,8 @@ const LEVELS: Script = Script {
         (1, Act::Op(Op::Add(SEVEN, 64)), DONE),
         (1, Act::Leave(true), LEFT),
         (1, Act::Leave(false), LEFT),
-        (1, Act::Commit(&OF_OTHER_LEVELS, RETURNED), FIRST),
-        (0, Act::Commit(&OF_LEVELS, RETURNED), SECOND),
+        (1, Act::Commit(OF_OTHER_LEVELS, RETURNED), FIRST),
+        (0, Act::Commit(OF_LEVELS, RETURNED), SECOND),
     ],
     cells: &[
         (Kind::Counter, 7, Some(66)),
@@ -311,8 +311,8 @@ const FAILED_LEVELS: Script = Script {
         (1, Act::Op(Op::Add(SEVEN, 64)), DONE),
         (1, Act::Leave(true), LEFT),
         (1, Act::Leave(false), LEFT),
-        (1, Act::Commit(&OF_OTHER_LEVELS, RETURNED), FIRST),
-        (0, Act::Commit(&OF_LEVELS, TRAPPED), SECOND),
+        (1, Act::Commit(OF_OTHER_LEVELS, RETURNED), FIRST),
+        (0, Act::Commit(OF_LEVELS, TRAPPED), SECOND),
     ],
     cells: &[
         (Kind::Counter, 7, Some(27)),

@@ -1,10 +1,10 @@
 // Seats of an intake, in one thread and in eight.
 ghost use Rattle.std.specs.Prelude.{◌≡◌, ◌<◌, length};
 ghost use Rattle.std.specs.List.{All};
-ghost use Rattle.intake.specs.Intakes.{IsSeatOf};
+ghost use Rattle.book_workers.specs.Intakes.{IsSeatOf};
 
 use crate::assertions::{equal, holds};
-use intake::{Intake, Seat};
+use book_workers::{Intake, Seat};
 use std::alloc::Global;
 use std::process::Abort;
 use std::sync::Wait;

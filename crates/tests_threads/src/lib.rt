@@ -1,5 +1,4 @@
-//! Tests of threads that share a book, lanes or an intake, and of what a pace is told; and of what takes memory, where each block of it is refused in turn.
-//! There is no code here.
+//! Tests of threads that share a book, lanes or an intake, and of what a pace is told. There is no code here.
 #![tactic(auto)]
 
 #[cfg(test)]
@@ -8,8 +7,6 @@ mod assertions;
 mod intakes;
 #[cfg(test)]
 mod paces;
-#[cfg(test)]
-mod refused_memory;
 #[cfg(test)]
 mod shared_books;
 #[cfg(test)]

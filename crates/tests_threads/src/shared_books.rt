@@ -70,7 +70,7 @@ const ADDED_5: TraceStep = TraceStep::Did(Op::Add(SUM, 5), Reply::Nothing);
 const ADDED_20: TraceStep = TraceStep::Did(Op::Add(SUM, 20), Reply::Nothing);
 
 /// A call that looks at the counter, adds to it in a level that is dropped, and looks again.
-const LEVELS: [TraceStep; 9] = [
+const LEVELS: &[TraceStep] = &[
     TOTAL_OF_100,
     TraceStep::Opened,
     ADDED_20,
@@ -226,7 +226,7 @@ const SCRIPT: &[(bool, u32, Asked, Answer)] = &[
     (true, 1, Asked::Leave(false), NOT_ENTERED),
     (true, 1, Asked::Commit(&[TOTAL_OF_100]), DIFFERS),
     (false, 1, Asked::Commit(&[]), STALE_COMMIT),
-    (true, 1, Asked::Commit(&LEVELS), IS_FIRST),
+    (true, 1, Asked::Commit(LEVELS), IS_FIRST),
     (true, 1, Asked::Begin, COMMITTED),
 ];
 

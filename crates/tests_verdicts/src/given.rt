@@ -187,7 +187,7 @@ pub(crate) fn written<A: Allocator>(
     }
     let mut sink = MemorySink::new(heap, 10_000_000, Failures::none());
     write_block(alloc, block, &mut sink).or(Err("not written"))?;
-    Ok(sink.bytes().to_vec(heap)?)
+    Ok(sink.into_bytes())
 }
 
 /// The bytes of the block of an order, whose calls run one after another.

@@ -16,7 +16,7 @@ use test_support::EXAMPLE;
 const FUEL: u64 = 1_000_000;
 
 /// A module whose `look` gives the total of the counter of its key, and whose `bump` adds its second argument to that of its first.
-const COUNTER: [u8; 91] = [
+const COUNTER: &[u8] = &[
     0x00, 0x61, 0x73, 0x6D, 0x01, 0x00, 0x00, 0x00, 0x01, 0x0B, 0x02, 0x60, 0x02, 0x7E, 0x7E, 0x00,
     0x60, 0x01, 0x7E, 0x01, 0x7E, 0x02, 0x1B, 0x02, 0x05, 0x62, 0x6F, 0x6F, 0x73, 0x74, 0x03, 0x61,
     0x64, 0x64, 0x00, 0x00, 0x05, 0x62, 0x6F, 0x6F, 0x73, 0x74, 0x05, 0x74, 0x6F, 0x74, 0x61, 0x6C,
@@ -26,7 +26,7 @@ const COUNTER: [u8; 91] = [
 ];
 
 /// The modules of the contracts, and the cells before.
-const MODULES: &[&[u8]] = &[&EXAMPLE];
+const MODULES: &[&[u8]] = &[EXAMPLE];
 
 const CELLS: &[CellRow] = &[(0, Map, 1, 10), (0, Map, 2, 20)];
 
@@ -162,12 +162,6 @@ fn one_long_chain(rt: HostRuntime) -> Result<(), Fail> {
 
 #[test]
 fn each_adder_waits_for_each_reader(rt: HostRuntime) -> Result<(), Fail> {
-    let given = give(
-        rt.alloc(),
-        &[&COUNTER],
-        &[],
-        Calls::LooksAndBumps(250),
-        FUEL,
-    )?;
+    let given = give(rt.alloc(), &[COUNTER], &[], Calls::LooksAndBumps(250), FUEL)?;
     are_accepted(&rt, rt.alloc(), "looks and bumps", &given, false, 4, None)
 }

@@ -16,12 +16,12 @@ use std::thread::Threads;
 use test_support::{ASKING, EXAMPLE, FIRST_MODULE, PROBING};
 
 /// The module of whose export `run` each call adds 5 to the counter of its argument and returns the counter's total.
-const FIRST: &[&[u8]] = &[&FIRST_MODULE];
+const FIRST: &[&[u8]] = &[FIRST_MODULE];
 
-const OF_EXAMPLE: &[&[u8]] = &[&EXAMPLE];
+const OF_EXAMPLE: &[&[u8]] = &[EXAMPLE];
 
 /// Contract 0 asks itself, contract 1 whom its argument says.
-const THAT_ASK: &[&[u8]] = &[&ASKING, &PROBING];
+const THAT_ASK: &[&[u8]] = &[ASKING, PROBING];
 
 /// Calls that are mined, and what they come to.
 #[derive(Clone, Copy)]

@@ -62,7 +62,7 @@ const FUEL: u64 = 10_000_000;
 /// A reader that traps, and a writer of its cell.
 const PLAIN: Row = Row {
     name: "two calls",
-    modules: &[&EXAMPLE],
+    modules: &[EXAMPLE],
     cells: &[(0, Map, 1, 10), (0, Counter, 7, 3)],
     calls: Calls::These("0 100 peek i64:1\n0 100 set i64:1 i64:9\n"),
     after: &[(0, Map, 1, 9), (0, Counter, 7, 3)],
@@ -76,7 +76,7 @@ const PLAIN: Row = Row {
 /// `probe` of `spoil` of `store`, where the third level is dropped and the fourth is kept.
 const LEVELS: Row = Row {
     name: "calls that ask",
-    modules: &[&PROBING],
+    modules: &[PROBING],
     calls: Calls::These("0 100 both i64:115728\n0 100 probe i64:2081554432\n"),
     after: &[(0, Map, 1, 10), (0, Counter, 7, 4)],
     least: 20,

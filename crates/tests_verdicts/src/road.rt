@@ -167,7 +167,7 @@ fn given_beside(alloc: Global, list: List, others: u64) -> Result<Given, Fail> {
     for other in 0..others {
         cells.push((0, Map, 1_000_000 + other % 1_000_000, 1))?;
     }
-    let world = world_of(alloc, &[&EXAMPLE, &PROBING, SPIN], &cells)?;
+    let world = world_of(alloc, &[EXAMPLE, PROBING, SPIN], &cells)?;
     let calls = calls_of(alloc, list)?;
     let mut fuel: u64 = 0;
     for call in &calls {

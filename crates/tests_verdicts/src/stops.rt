@@ -16,14 +16,14 @@ use test_support::{EXAMPLE, PROBING};
 /// Two bumps of one counter.
 fn bumps(alloc: Global) -> Result<Given, Fail> {
     let calls = Calls::These("0 100 bump i64:7 i64:5\n0 100 bump i64:7 i64:-5\n");
-    give(alloc, &[&EXAMPLE], &[], calls, 1_000_000)
+    give(alloc, &[EXAMPLE], &[], calls, 1_000_000)
 }
 
 /// Calls of a contract that asks whom their arguments say, with key 7: `both` of `fall`, which is dropped, and of `count`, which is kept; `probe` of `probe` of
 /// `spoil` of `store`, where the third level is dropped and the fourth is kept in it; and `probe` of `spoil` of `fall`, where one is dropped in another.
 fn asking(alloc: Global) -> Result<Given, Fail> {
     let calls = "0 100 both i64:115728\n0 100 probe i64:2081554432\n0 100 probe i64:116808\n";
-    give(alloc, &[&PROBING], &[], Calls::These(calls), 1_000_000)
+    give(alloc, &[PROBING], &[], Calls::These(calls), 1_000_000)
 }
 
 /// What so many workers come to that are stopped so and watched. Their block is right.

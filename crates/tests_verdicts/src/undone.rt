@@ -110,13 +110,13 @@ fn stopped_at<R: Threads + Wait + Sync>(
     lines: &'static str,
     step: Step,
 ) -> Result<(u32, Vec<u32>), Fail> {
-    let given = give(alloc, &[&EXAMPLE], &[], Calls::These(lines), 1_000)?;
+    let given = give(alloc, &[EXAMPLE], &[], Calls::These(lines), 1_000)?;
     let calls = given.calls.as_slice();
     if calls.len() > 65_535 {
         return Err(Fail::from("too many calls"));
     }
     let ration = Ration::new(alloc, AMPLE);
-    let world = world_of(&ration, &[&EXAMPLE], &[])?;
+    let world = world_of(&ration, &[EXAMPLE], &[])?;
     let pace = StopAt::new(&ration, step);
     let Ok(mined) = mine_in(rt, &ration, &world, calls, 1_000, 2, 3, &pace) else {
         return Err(Fail::from("refused"));

@@ -6,7 +6,7 @@ use Rattle.std.proofs.lemmas.List.{drop_more}
 use Rattle.std.proofs.Math.ListN.{drop_of_length-le}
 use Rattle.std.proofs.lemmas.Bool.{cond-true, cond-false}
 use Rattle.std.proofs.lemmas.Option.{none-some}
-use Rattle.spec_syntax.specs.Syntax.{FuncType}
+use Rattle.spec_modules.specs.Syntax.{FuncType}
 use Rattle.spec_text.specs.TypeUses.{FirstType, Adds, all_added, is_there, is_new}
 use Rattle.text_resolve.specs.Types.{first_type}
 use Rattle.text_resolve.proofs.Plains.{type_is_found, found_is_type}

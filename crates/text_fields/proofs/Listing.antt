@@ -3,7 +3,7 @@ use Rattle.std.proofs.Common.{◌≡◌, ℕ, ◌+◌, ◌<◌, ◌≤◌, List,
 use Rattle.std.specs.List.{flat_map, filter_map}
 use Rattle.std.proofs.lemmas.List.{drop_more}
 use Rattle.std.proofs.Math.ListN.{drop_of_length-le}
-use Rattle.spec_syntax.specs.Syntax.{FuncType}
+use Rattle.spec_modules.specs.Syntax.{FuncType}
 use Rattle.spec_text.specs.Spaces.{Names, Spaces}
 use Rattle.spec_text.specs.TypeUses.{inline_of_field}
 use Rattle.spec_text.specs.Fields.{declared_type}

@@ -6,10 +6,10 @@ use Rattle.wtypes.specs.declared.ValType.{ValType}
 use Rattle.wtypes.specs.declared.ValType.TheVariants.{I32}
 use Rattle.std.proofs.lemmas.Bool.{cond-true, cond-false, lt-ltb}
 use Rattle.std.proofs.lemmas.Option.{none-some, same_Some, slice_get-map, slice_get_past, slice_get-get_or}
-use Rattle.spec_syntax.specs.Syntax as S
+use Rattle.spec_modules.specs.Syntax as S
 use Rattle.std.specs.List.{list_all}
-use Rattle.spec_syntax.specs.Limits.{is_u32, export_fits, both, first, second}
-use Rattle.spec_binary.specs.Spells.{ExpressionFits}
+use Rattle.spec_modules.specs.Limits.{is_u32, export_fits, both, first, second}
+use Rattle.spec_modules.specs.Spells.{ExpressionFits}
 use Rattle.spec_text.specs.Named as N
 use Rattle.spec_text.specs.Spaces.{Names, Spaces, FirstAt, AreDistinct, no_names, unnamed, a_name}
 use Rattle.spec_text.specs.Instructions.{Body}

@@ -1,6 +1,6 @@
 -- Types, where each that is not there is put at the end.
 use Rattle.std.specs.Prelude.{◌≡◌, List, [], ◌∷◌, ◌++◌, Option, Some, None, cond, is_some}
-use Rattle.spec_syntax.specs.Syntax.{FuncType}
+use Rattle.spec_modules.specs.Syntax.{FuncType}
 use Rattle.spec_text.specs.TypeUses.{Adds}
 use Rattle.text_resolve.specs.Types.{first_type}
 

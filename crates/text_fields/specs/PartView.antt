@@ -1,6 +1,6 @@
 -- What contracts see of the part of a module that a field makes.
 use Rattle.std.specs.Prelude.{Bool, true, map}
-use Rattle.spec_syntax.specs.Limits.{counts_from}
+use Rattle.spec_modules.specs.Limits.{counts_from}
 use Rattle.module_tree.specs.ModuleView.{import_view, func_view, limits_view, global_view, export_view, element_view, data_view, func_ordinals, global_ordinals, element_ordinals, data_ordinals}
 use Rattle.text_fields.specs.declared.part.Part.{Part}
 use Rattle.text_fields.specs.declared.part.Part.TheVariants as part

@@ -2,8 +2,8 @@
 use Rattle.std.specs.Prelude.{ℕ, Bool, true, not, ◌&&◌, List, [], ◌∷◌, ◌++◌, map, Option, Some, None, is_some, option_map, option_and_then, cond, slice_get}
 use Rattle.std.specs.List.{list_all}
 use Rattle.wtypes.specs.declared.ValType.{ValType}
-use Rattle.spec_syntax.specs.Syntax as S
-use Rattle.spec_syntax.specs.Limits.{is_u32, expression_fits, limits_fit, import_fits, global_fits, export_fits, element_fits, data_fits}
+use Rattle.spec_modules.specs.Syntax as S
+use Rattle.spec_modules.specs.Limits.{is_u32, expression_fits, limits_fit, import_fits, global_fits, export_fits, element_fits, data_fits}
 use Rattle.spec_text.specs.Named as N
 use Rattle.spec_text.specs.Spaces.{Names, Spaces}
 use Rattle.spec_text.specs.TypeUses.{names_of, types_of}

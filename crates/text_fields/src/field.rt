@@ -1,7 +1,7 @@
 //! Fields one by one.
 ghost use Rattle.std.specs.Prelude.{◌≡◌, [], true, map, IfOk, IfErr, string_bytes};
 ghost use Rattle.std.specs.List.{list_all};
-ghost use Rattle.spec_syntax.specs.Limits.{expression_fits, limits_fit, import_desc_fits, export_desc_fits, import_fits, global_fits, export_fits, element_fits, data_fits, is_byte, counts_from};
+ghost use Rattle.spec_modules.specs.Limits.{expression_fits, limits_fit, import_desc_fits, export_desc_fits, import_fits, global_fits, export_fits, element_fits, data_fits, is_byte, counts_from};
 ghost use Rattle.module_tree.specs.View.{instrs_view, ordinals};
 ghost use Rattle.module_tree.specs.ModuleView.{limits_view, import_desc_view, import_view, func_view, global_type_view, global_view, export_desc_view, export_view, element_view, data_view, func_ordinals, global_ordinals, element_ordinals, data_ordinals};
 ghost use Rattle.text_body.specs.Views.{text_of, index_of, binding_of, use_of, flats_of};

@@ -2,9 +2,9 @@
 use Rattle.std.proofs.Common.{◌≡◌, ◌≢◌, Bool, true, false, ◌&&◌, List, [], ◌∷◌, length, refl, ap₂, arith}
 use Rattle.wtypes.specs.declared.ValType.{ValType}
 use Rattle.wtypes.specs.declared.ValType.TheVariants.{I32, I64}
-use Rattle.spec_syntax.specs.Syntax.{FuncType}
-use Rattle.spec_syntax.specs.Limits.{both, first, second}
-use Rattle.spec_numeric.specs.Operators.{same_type}
+use Rattle.spec_modules.specs.Syntax.{FuncType}
+use Rattle.spec_modules.specs.Limits.{both, first, second}
+use Rattle.spec_modules.specs.Operators.{same_type}
 use Rattle.text_resolve.specs.Types.{same_types, same_func}
 
 type_same : (t : ValType) → same_type t t ≡ true

@@ -5,11 +5,11 @@ use Rattle.std.proofs.lemmas.Slice.Eq.{bytes_eq-Decides}
 use Rattle.std.proofs.lemmas.Option.{none-some, same_Some, some_pair_parts}
 use Rattle.std.proofs.lemmas.Bool.{cond-true, le-leb}
 use Rattle.wtypes.specs.declared.ValType.{ValType}
-use Rattle.spec_syntax.specs.Syntax as S
-use Rattle.spec_syntax.specs.Shape.{instr_depth, instrs_depth}
-use Rattle.spec_syntax.specs.Profile.{nesting_limit}
-use Rattle.spec_syntax.specs.Limits.{instrs_fit, expression_fits, both}
-use Rattle.spec_binary.specs.Spells.{InstrLabelsFit, LabelsFit, ExpressionFits}
+use Rattle.spec_modules.specs.Syntax as S
+use Rattle.spec_modules.specs.Shape.{instr_depth, instrs_depth}
+use Rattle.spec_modules.specs.Profile.{nesting_limit}
+use Rattle.spec_modules.specs.Limits.{instrs_fit, expression_fits, both}
+use Rattle.spec_modules.specs.Spells.{InstrLabelsFit, LabelsFit, ExpressionFits}
 use Rattle.spec_text.specs.Named as N
 use Rattle.spec_text.specs.Spaces.{Names, Spaces}
 use Rattle.spec_text.specs.Instructions.{Becomes, simply, with_index, br_table, call_indirect, load, store, const, Closes, not_named, named_again, Body, nothing, plain, block, loop, if_then, if_else}

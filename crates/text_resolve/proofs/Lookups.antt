@@ -7,7 +7,7 @@ use Rattle.std.proofs.lemmas.Slice.Eq.{bytes_eq-Decides}
 use Rattle.std.proofs.lemmas.List.{take_more, drop_more, map-append, take-append-drop, length-map, length-take-le}
 use Rattle.std.proofs.Math.ListN.{drop_of_length-le}
 use Rattle.std.proofs.lemmas.Bool.{cond-true, cond-false, lt-ltb}
-use Rattle.spec_syntax.specs.Limits.{both}
+use Rattle.spec_modules.specs.Limits.{both}
 use Rattle.std.proofs.lemmas.Option.{none-some, same_Some}
 use Rattle.spec_text.specs.Spaces.{Names, FirstAt, here, later, AreDistinct, no_names, unnamed, a_name}
 use Rattle.spec_text.specs.Numbers.{IsU32}

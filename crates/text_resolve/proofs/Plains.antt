@@ -12,12 +12,12 @@ use Rattle.wtypes.specs.declared.StoreOp.{StoreOp}
 use Rattle.wtypes.specs.declared.StoreOp.TheVariants.{I32Store, I64Store, I32Store8, I32Store16, I64Store8, I64Store16, I64Store32}
 use Rattle.wtypes.specs.declared.PlainInstr.{PlainInstr}
 use Rattle.wtypes.specs.declared.PlainInstr.TheVariants as P
-use Rattle.spec_syntax.specs.Syntax as S
-use Rattle.spec_syntax.specs.Syntax.{FuncType}
-use Rattle.spec_syntax.specs.Profile.{label_limit}
-use Rattle.spec_binary.specs.Spells.{InstrLabelsFit}
-use Rattle.spec_numeric.specs.Operators.{value_of}
-use Rattle.spec_numeric.specs.Storage.{load_width, store_width}
+use Rattle.spec_modules.specs.Syntax as S
+use Rattle.spec_modules.specs.Syntax.{FuncType}
+use Rattle.spec_modules.specs.Profile.{label_limit}
+use Rattle.spec_modules.specs.Spells.{InstrLabelsFit}
+use Rattle.spec_modules.specs.Operators.{value_of}
+use Rattle.spec_modules.specs.Storage.{load_width, store_width}
 use Rattle.spec_text.specs.Numbers.{IsU32, IsConstant, constant}
 use Rattle.spec_text.specs.Named as N
 use Rattle.spec_text.specs.Spaces.{Names, Spaces}

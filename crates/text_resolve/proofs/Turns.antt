@@ -2,11 +2,11 @@
 use Rattle.std.proofs.Common.{◌≡◌, ℕ, zero, suc, ◌+◌, ◌-◌, ◌<◌, ◌≤◌, Bool, true, false, List, [], ◌∷◌, ◌++◌, length, get_or, drop, map, Option, Some, None, refl, sym, ap, ◌∙◌, arith, rules, Vec}
 use Rattle.std.specs.Prelude.{option_map, option_and_then, not}
 use Rattle.std.proofs.lemmas.List.{map-append, drop_more, length-map, length-drop}
-use Rattle.spec_syntax.specs.Syntax as S
+use Rattle.spec_modules.specs.Syntax as S
 use Rattle.std.specs.List.{range_with_len}
 use Rattle.std.proofs.Math.ListN.{drop_of_length-le}
 use Rattle.std.proofs.lemmas.Bool.{eq-eqb}
-use Rattle.spec_syntax.specs.Limits.{instr_fits, instrs_fit, counts_from, both, first, second}
+use Rattle.spec_modules.specs.Limits.{instr_fits, instrs_fit, counts_from, both, first, second}
 use Rattle.spec_text.specs.Named as N
 use Rattle.text_resolve.specs.declared.refusal.ResolveFault.{ResolveFault}
 use Rattle.text_resolve.specs.declared.refusal.ResolveFault.TheVariants.{UnknownName, RepeatedName, NumberRange, TooLarge, Broken, NoMemory}

@@ -2,9 +2,9 @@
 use Rattle.std.specs.Prelude.{◌≡◌, ℕ, zero, suc, Bool, true, false, List, [], ◌∷◌, length, Option, Some, None, option_map, option_and_then, cond}
 use Rattle.std.specs.Str.{bytes_eq}
 use Rattle.wtypes.specs.declared.ValType.{ValType}
-use Rattle.spec_syntax.specs.Syntax as S
+use Rattle.spec_modules.specs.Syntax as S
 use Rattle.spec_text.specs.Named as N
-use Rattle.spec_binary.specs.Spells.{ExpressionFits}
+use Rattle.spec_modules.specs.Spells.{ExpressionFits}
 use Rattle.spec_text.specs.Spaces.{Names, Spaces}
 use Rattle.spec_text.specs.Instructions.{Body}
 use Rattle.text_resolve.specs.Plain.{plain_at}

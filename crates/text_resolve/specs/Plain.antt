@@ -5,10 +5,10 @@ use Rattle.wtypes.specs.declared.ValType.{ValType}
 use Rattle.wtypes.specs.declared.Value.{Value}
 use Rattle.wtypes.specs.declared.PlainInstr.{PlainInstr}
 use Rattle.wtypes.specs.declared.PlainInstr.TheVariants as P
-use Rattle.spec_syntax.specs.Syntax as S
-use Rattle.spec_syntax.specs.Profile.{label_limit}
-use Rattle.spec_numeric.specs.Operators.{word, value_of}
-use Rattle.spec_numeric.specs.Storage.{load_width, store_width}
+use Rattle.spec_modules.specs.Syntax as S
+use Rattle.spec_modules.specs.Profile.{label_limit}
+use Rattle.spec_modules.specs.Operators.{word, value_of}
+use Rattle.spec_modules.specs.Storage.{load_width, store_width}
 use Rattle.spec_text.specs.declared.Operator.{Operator}
 use Rattle.spec_text.specs.Named as N
 use Rattle.spec_text.specs.Spaces.{Names, Spaces}

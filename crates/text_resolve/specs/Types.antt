@@ -1,8 +1,8 @@
 -- The types that type uses stand for, as they are looked up.
 use Rattle.std.specs.Prelude.{ℕ, Bool, true, false, ◌&&◌, ◌||◌, List, [], ◌∷◌, Option, Some, None, option_and_then, cond, slice_get}
 use Rattle.wtypes.specs.declared.ValType.{ValType}
-use Rattle.spec_syntax.specs.Syntax.{FuncType}
-use Rattle.spec_numeric.specs.Operators.{same_type}
+use Rattle.spec_modules.specs.Syntax.{FuncType}
+use Rattle.spec_modules.specs.Operators.{same_type}
 use Rattle.spec_text.specs.Named as N
 use Rattle.spec_text.specs.Spaces.{Names}
 use Rattle.spec_text.specs.TypeUses.{written_type}

@@ -1,8 +1,8 @@
 //! Bodies and other expressions.
 ghost use Rattle.std.specs.Prelude.{◌≡◌, ◌+◌, ◌-◌, ◌<◌, ◌≤◌, ◌^◌, true, map, length, [], option_map, Option, IfOk, IfErr, IfSome, not};
-ghost use Rattle.spec_syntax.specs.Limits.{instr_fits, instrs_fit, expression_fits, counts_from};
-ghost use Rattle.spec_syntax.specs.Shape.{instr_depth, instrs_depth};
-ghost use Rattle.spec_binary.specs.Spells.{ExpressionFits};
+ghost use Rattle.spec_modules.specs.Limits.{instr_fits, instrs_fit, expression_fits, counts_from};
+ghost use Rattle.spec_modules.specs.Shape.{instr_depth, instrs_depth};
+ghost use Rattle.spec_modules.specs.Spells.{ExpressionFits};
 ghost use Rattle.spec_text.specs.Instructions.{Body};
 ghost use Rattle.module_tree.specs.View.{instr_view, instrs_view, instr_ordinals, ordinals};
 ghost use Rattle.module_tree.specs.Numbering.{Numbered};

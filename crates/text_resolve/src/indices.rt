@@ -1,7 +1,7 @@
 //! What indices stand for.
 ghost use Rattle.std.specs.Prelude.{◌≡◌, ◌≢◌, ◌≤◌, ◌^◌, length, map, true, Err};
 ghost use Rattle.std.specs.List.{list_all};
-ghost use Rattle.spec_syntax.specs.Limits.{is_u32};
+ghost use Rattle.spec_modules.specs.Limits.{is_u32};
 ghost use Rattle.spec_text.specs.Spaces.{Names};
 ghost use Rattle.text_body.specs.Views.{index_of};
 ghost use Rattle.text_resolve.specs.declared.refusal.ResolveFault.TheVariants.{NoMemory};

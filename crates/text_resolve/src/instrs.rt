@@ -1,7 +1,7 @@
 //! Instructions that hold no other.
 ghost use Rattle.std.specs.Prelude.{◌≡◌, ◌∷◌, [], true, map, IfOk, IfErr};
 ghost use Rattle.spec_text.specs.Instructions as Instructions;
-ghost use Rattle.spec_syntax.specs.Limits.{instr_fits};
+ghost use Rattle.spec_modules.specs.Limits.{instr_fits};
 ghost use Rattle.module_tree.specs.View.{instr_view, instr_ordinals};
 ghost use Rattle.text_body.specs.Views.{text_of, index_of, use_of, flat_of};
 ghost use Rattle.text_resolve.specs.Outcome.{Gives};

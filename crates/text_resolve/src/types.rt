@@ -1,6 +1,5 @@
 //! What is written of a function's type.
 ghost use Rattle.std.specs.Prelude.{◌≡◌, map, Some, IfOk, OnOk, IfErr, is_none};
-ghost use Rattle.spec_numeric.specs.Operators as Operators;
 ghost use Rattle.spec_text.specs.TypeUses.{types_of, written_type};
 ghost use Rattle.module_tree.specs.ModuleView.{func_type_view};
 ghost use Rattle.text_body.specs.Views.{text_of, binding_of, use_of};
@@ -9,19 +8,10 @@ ghost use Rattle.text_resolve.specs.declared.refusal.ResolveFault.TheVariants.{N
 ghost use Rattle.text_resolve.specs.Types.{same_types, same_func, first_type, given, is_bare, use_at};
 
 use crate::{ResolveFault, Space, index_in};
+use spec_modules::same_type;
 use std::alloc::Allocator;
 use text_body::{Binding, Index, TypeUse};
 use wtypes::{FuncType, ValType};
-
-fn same_type(a: ValType, b: ValType) -> bool
-    ensures { result ≡ Operators.same_type a b }
-{
-    match (a, b) {
-        (ValType::I32, ValType::I32) => true,
-        (ValType::I64, ValType::I64) => true,
-        _ => false,
-    }
-}
 
 fn same_list(a: &[ValType], b: &[ValType]) -> bool
     ensures { result ≡ same_types a.now b.now }

@@ -1,6 +1,6 @@
 -- Fields with instructions: what is read before them and behind them, and the grammar.
 use Rattle.std.proofs.Common.{◌≡◌, ℕ, List, ◌∷◌, Option, Some, None, refl, sym, ap, ◌∙◌, subst}
-use Rattle.spec_syntax.specs.Syntax as S
+use Rattle.spec_modules.specs.Syntax as S
 use Rattle.spec_text.specs.declared.KeyWord.TheVariants as k
 use Rattle.spec_text.specs.Words.{Word, LeftBracket, Key}
 use Rattle.spec_text.specs.Placed as N

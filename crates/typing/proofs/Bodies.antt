@@ -5,7 +5,7 @@ use Rattle.std.proofs.lemmas.List.{drop_more}
 use Rattle.std.proofs.lemmas.Bool.Decides.{nat_tests}
 use Rattle.spec_typing.specs.Modules.{Spaces, BodyTyped, ModuleTyped}
 use Rattle.spec_typing.proofs.Sound.{both}
-use Rattle.spec_syntax.specs.Syntax as syntax
+use Rattle.spec_modules.specs.Syntax as syntax
 use Rattle.module_tree.specs.declared.module.Func.{Func}
 use Rattle.module_tree.specs.ModuleView.{func_view}
 use Rattle.body_typing.specs.Checked.{Tells}

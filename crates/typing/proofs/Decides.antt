@@ -10,10 +10,10 @@ use Rattle.std.proofs.lemmas.List.Kept.{AllPairs-cons}
 use Rattle.wtypes.specs.declared.ValType.{ValType}
 use Rattle.wtypes.specs.declared.ValType.TheVariants.{I32}
 use Rattle.wtypes.specs.declared.PlainInstr.TheVariants.{GlobalGet, Const}
-use Rattle.spec_syntax.specs.Syntax.{Instrs, Plain, nothing, seq, FuncType, Limits, GlobalType, Name, Import, ImportDesc, ImportFunc, ImportTable, ImportMemory, ImportGlobal, Export, ExportDesc, ExportFunc, ExportTable, ExportMemory, ExportGlobal, Func, Element, DataSegment, Module}
-use Rattle.spec_numeric.specs.Operators.{type_of}
+use Rattle.spec_modules.specs.Syntax.{Instrs, Plain, nothing, seq, FuncType, Limits, GlobalType, Name, Import, ImportDesc, ImportFunc, ImportTable, ImportMemory, ImportGlobal, Export, ExportDesc, ExportFunc, ExportTable, ExportMemory, ExportGlobal, Func, Element, DataSegment, Module}
+use Rattle.spec_modules.specs.Operators.{same_type, type_of}
 use Rattle.spec_typing.specs.Typing.{Typed, of}
-use Rattle.spec_typing.specs.Principal.{same_type, run, empty}
+use Rattle.spec_typing.specs.Principal.{run, empty}
 use Rattle.spec_typing.specs.Modules.{Spaces, func_of, table_of, memory_of, func_type_indices, tables, memories, imported_globals, globals, type_at, is_not_empty, result_of, spaces_of, context_of, IsConstant, LimitsTyped, MemoryTyped, BodyTyped, GlobalTyped, ExportTyped, ElementTyped, DataTyped, StartTyped, ModuleTyped}
 use Rattle.spec_typing.proofs.Sound.{run_some, ended, same_type_eq, both}
 use Rattle.spec_typing.proofs.Complete.{run_gives, ends_gives, join_true, same_type_of}

@@ -2,7 +2,7 @@
 use Rattle.std.specs.Prelude.{Result, Ok, Err, IfOk}
 use Rattle.std.proofs.Common.{◌≡◌, ℕ, zero, suc, Bool, true, false, ◌&&◌, List, [], ◌∷◌, ◌++◌, Option, Some, None, is_none, map, length, take, refl, ap, ◌∙◌}
 use Rattle.std.specs.List.{list_all}
-use Rattle.spec_syntax.specs.Syntax.{GlobalType, Element, DataSegment, Export}
+use Rattle.spec_modules.specs.Syntax.{GlobalType, Element, DataSegment, Export}
 use Rattle.typing.specs.Tests.{element_passes, data_passes, export_passes, exports_pass}
 
 map_take : {X Y : Type 0} (f : X → Y) (n : ℕ) (xs : List X) → map f (take n xs) ≡ take n (map f xs)

@@ -1,7 +1,7 @@
 -- What a valid module keeps by its type.
 use Rattle.std.proofs.Common.{◌≡◌, Bool, true, false, refl}
 use Rattle.std.proofs.Math.Logic.{∥∥₁_elim}
-use Rattle.spec_syntax.specs.Syntax.{Module}
+use Rattle.spec_modules.specs.Syntax.{Module}
 use Rattle.spec_typing.specs.Modules.{ModuleTyped}
 use Rattle.typing.specs.Tests.{module_passes}
 use Rattle.typing.proofs.Decides.{typed_of, of_typed}

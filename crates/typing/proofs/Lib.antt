@@ -4,3 +4,4 @@ pub mod Decides
 pub mod Exported
 pub mod Gathered
 pub mod Kept
+mod Stacks

@@ -1,4 +1,5 @@
 pub mod Judged
 pub mod Names
 pub mod Parts
+pub mod Takes
 pub mod Tests

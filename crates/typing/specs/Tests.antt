@@ -5,9 +5,9 @@ use Rattle.std.specs.Str.{bytes_eq}
 use Rattle.wtypes.specs.declared.ValType.{ValType}
 use Rattle.wtypes.specs.declared.ValType.TheVariants.{I32}
 use Rattle.wtypes.specs.declared.PlainInstr.TheVariants.{GlobalGet, Const}
-use Rattle.spec_syntax.specs.Syntax.{Instrs, Plain, nothing, seq, FuncType, Limits, GlobalType, Name, Import, ImportDesc, ImportFunc, ImportTable, ImportMemory, ImportGlobal, Export, ExportDesc, ExportFunc, ExportTable, ExportMemory, ExportGlobal, Func, Global, Element, DataSegment, Module}
-use Rattle.spec_numeric.specs.Operators.{type_of}
-use Rattle.spec_typing.specs.Principal.{same_type, passes}
+use Rattle.spec_modules.specs.Syntax.{Instrs, Plain, nothing, seq, FuncType, Limits, GlobalType, Name, Import, ImportDesc, ImportFunc, ImportTable, ImportMemory, ImportGlobal, Export, ExportDesc, ExportFunc, ExportTable, ExportMemory, ExportGlobal, Func, Global, Element, DataSegment, Module}
+use Rattle.spec_modules.specs.Operators.{same_type, type_of}
+use Rattle.spec_typing.specs.Principal.{passes}
 use Rattle.spec_typing.specs.Modules.{Spaces, func_type_indices, tables, memories, imported_globals, globals, type_at, is_not_empty, result_of, spaces_of, context_of}
 
 abbrev pub type_passes : FuncType → Bool

@@ -3,7 +3,7 @@
 ghost use Rattle.std.specs.Prelude.{◌≡◌, ◌||◌, ℕ, nat_lt, map, length, is_none, not, List, [], Some, IfOk, OnOk};
 ghost use Rattle.std.specs.List.{list_all};
 ghost use Rattle.std.specs.Str.{bytes_eq};
-ghost use Rattle.spec_syntax.specs.Syntax as syntax;
+ghost use Rattle.spec_modules.specs.Syntax as syntax;
 ghost use Rattle.module_tree.specs.View.{instrs_view};
 ghost use Rattle.module_tree.specs.ModuleView.{func_type_view, global_type_view, global_view, element_view, data_view, export_view, export_desc_view};
 ghost use Rattle.typing.specs.Names.{has_name};
@@ -11,12 +11,13 @@ ghost use Rattle.typing.specs.Tests;
 ghost use Rattle.typing.specs.Tests.{constant_passes, global_passes, element_passes, data_passes, start_passes, export_passes, exports_pass};
 
 use crate::rules::Fault;
-use body_typing::operators::{same, type_of};
+use body_typing::operators::type_of;
 use body_typing::rule::Rule;
 use body_typing::spaces::Spaces;
 use module_tree::instr::Instr;
 use module_tree::lone::lone_plain;
 use module_tree::module::{DataSegment, Element, Export, ExportDesc, Global, GlobalType};
+use spec_modules::same_type;
 use std::alloc::{AllocError, Allocator};
 use std::collections::BTreeSet;
 use wtypes::{FuncType, PlainInstr, ValType};
@@ -26,10 +27,10 @@ fn is_constant_op(imported: &[GlobalType], op: PlainInstr, t: ValType) -> bool
     ensures { result ≡ constant_passes (map global_type_view imported.now) (syntax.seq (syntax.Plain op) syntax.nothing) t }
 {
     match op {
-        PlainInstr::Const(v) => same(type_of(v), t),
+        PlainInstr::Const(v) => same_type(type_of(v), t),
         PlainInstr::GlobalGet(index) => match imported.get(index as usize) {
             None => false,
-            Some(g) => same(g.value_type, t) && !g.is_mutable,
+            Some(g) => same_type(g.value_type, t) && !g.is_mutable,
         },
         _ => false,
     }

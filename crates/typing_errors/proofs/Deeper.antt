@@ -1,7 +1,7 @@
 -- A sequence within another.
 use Rattle.std.proofs.Common.{◌≡◌, ◌<◌, ◌⊎◌, ℕ, zero, suc, List, [], ◌∷◌, Option, Some, None, Result, Ok, Err, IfOk, IfSome, Vec, length, get_or, reverse, inl, inr, refl, sym, ap, subst, ◌∙◌, arith, rules}
 use Rattle.wtypes.specs.declared.ValType.{ValType}
-use Rattle.spec_syntax.specs.Syntax as syntax
+use Rattle.spec_modules.specs.Syntax as syntax
 use Rattle.module_tree.specs.declared.instr.Instr.{Instr, the_lemmas}
 use Rattle.module_tree.specs.declared.instr.Instr as tree
 use Rattle.module_tree.specs.View.{instr_view, instrs_view}

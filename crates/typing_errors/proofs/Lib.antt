@@ -1,2 +1,1 @@
 mod Deeper
-mod Stacks

@@ -1,8 +1,8 @@
 -- Where an instruction stands in a body.
 use Rattle.std.specs.Prelude.{◌≡◌, ◌⊎◌, ℕ, List, [], ◌∷◌, ◌++◌, codes, Option, Some, None, option_and_then, slice_get}
 use Rattle.wtypes.specs.declared.ValType.{ValType}
-use Rattle.spec_syntax.specs.Syntax.{Instr, Plain, BrTable, Block, Loop, If, Instrs, nothing, seq, Module}
-use Rattle.spec_syntax.specs.Shape.{instr_at}
+use Rattle.spec_modules.specs.Syntax.{Instr, Plain, BrTable, Block, Loop, If, Instrs, nothing, seq, Module}
+use Rattle.spec_modules.specs.Shape.{instr_at}
 use Rattle.module_tree.specs.Readers.{defined_func}
 use Rattle.module_tree.specs.declared.instr.Instr as tree
 use Rattle.module_tree.specs.View.{ordinal_of, instrs_view}

@@ -1,7 +1,6 @@
 //! What is said of an instruction that breaks a rule: what was expected, and what was found.
 
 use crate::behind::operands_behind;
-use crate::takes::takes_of;
 use crate::texts::{end_text, if_text, plain_text, range_text, result_name, table_text};
 use body_typing::lookup::label_at;
 use body_typing::operands::Operands;
@@ -10,6 +9,7 @@ use body_typing::scope::Scope;
 use module_tree::instr::Instr;
 use module_tree::width::{load_width, store_width};
 use std::alloc::{AllocError, Allocator, Global};
+use typing::takes::takes_of;
 use wtypes::{PlainInstr, ValType};
 
 /// What an instruction names that is not there, by its number.

@@ -10,7 +10,6 @@ mod names;
 mod operators;
 mod same;
 mod sites;
-mod takes;
 mod texts;
 
 pub use lists::item_text;

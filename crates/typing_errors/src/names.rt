@@ -1,8 +1,6 @@
 //! The names of instructions.
 
 ghost use Rattle.std.specs.Prelude.{◌≡◌, IfSome, IsTrue};
-ghost use Rattle.spec_text.specs.Words.{beside};
-ghost use Rattle.spec_text.specs.declared.TheConstants.{KEY_WORDS, OPERATORS};
 ghost use Rattle.module_tree.specs.View.{instr_view};
 ghost use Rattle.typing_errors.specs.Names;
 ghost use Rattle.typing_errors.specs.Names.{IsSpelled, IsNameOf};
@@ -10,45 +8,19 @@ ghost use Rattle.typing_errors.specs.Names.{IsSpelled, IsNameOf};
 use crate::operators::operator_of;
 use crate::same::is_operator;
 use module_tree::instr::Instr;
-use spec_text::{KEY_WORDS, KeyWord, OPERATORS, Operator};
+use spec_text::{KEY_WORDS, KeyWord, OPERATORS, Operator, key_word_named, operator_named};
 use std::alloc::Allocator;
-
-/// What stands beside the text in the table.
-fn look_up<V: Copy>(table: &[(&[u8], V)], text: &[u8]) -> Option<V>
-    ensures { result ≡ beside (λ r. r.now) text.now table.now }
-{
-    for entry in table {
-        if entry.0 == text {
-            return Some(entry.1);
-        }
-    }
-    None
-}
-
-/// The key word that the text spells.
-fn key_word(text: &[u8]) -> Option<KeyWord>
-    ensures { result ≡ beside (λ r. r.now) text.now KEY_WORDS }
-{
-    look_up(&KEY_WORDS, text)
-}
-
-/// The operator that the text names.
-fn operator(text: &[u8]) -> Option<Operator>
-    ensures { result ≡ beside (λ r. r.now) text.now OPERATORS }
-{
-    look_up(&OPERATORS, text)
-}
 
 /// Whether the text is this word, or names this operator.
 fn spells(text: &[u8], naming: Naming) -> bool
     ensures { IsTrue result → IsSpelled text.now naming }
 {
     match naming {
-        Naming::Operator(wanted) => match operator(text) {
+        Naming::Operator(wanted) => match operator_named(text) {
             Some(found) => is_operator(found, wanted),
             None => false,
         },
-        Naming::Word(wanted) => match key_word(text) {
+        Naming::Word(wanted) => match key_word_named(text) {
             Some(found) => found == wanted,
             None => false,
         },

@@ -1,8 +1,8 @@
 //! Types and operands in words.
 
-use crate::takes::Takes;
 use body_typing::operands::Operands;
 use std::alloc::{AllocError, Allocator, Global};
+use typing::takes::Takes;
 use wtypes::{FuncType, PlainInstr, ValType};
 
 /// The name of a type.

@@ -1,21 +1,18 @@
 -- What the workers share and hand back may cross threads, over an allocator that may, and whose blocks any thread may give back.
 use denote.RattleType.{RattleType}
 use denote.Ref.{NamedLft}
-use denote.Struct.Field.{row_field}
 use denote.Param.Send.{Frees, IsSend, IsSync, sendable}
-use denote.Param.SendFields.{declared_sync, as_row_sync}
+use denote.Param.SendFields.{declared_sync}
 use Rattle.std.specs.declared.alloc.Allocator.{Ghosts}
 use Rattle.std.proofs.Crossing as std
 use Rattle.std.proofs.CrossingOver as over
 use Rattle.std.proofs.MapsCrossingOver as maps_over
 use Rattle.spec_ledger.proofs.Entry.TheSendSync as entry
 use Rattle.schedule.specs.contracts.board.Board as board_row
-use Rattle.std.specs.contracts.vec.Vec as vec_row
 use Rattle.link.specs.contracts.deployed.Deployed as contract_row
-use Rattle.storage.specs.contracts.Cells as cells_row
 use Rattle.world.specs.contracts.value.World as world_row
 use Rattle.block.specs.contracts.value.Block as block_row
-use Rattle.ahead.specs.contracts.Ahead as ahead_row
+use Rattle.storage.specs.contracts.cells_ahead.Ahead as ahead_row
 use Rattle.lock_profile.specs.contracts.Profile as profile_row
 use Rattle.records.specs.contracts.position.Position as position_row
 use Rattle.serial.proofs.Crossing.{crosses, vec_send, vec_sync, contract_sync, contracts_send, cells_sync, finished_send}
@@ -56,7 +53,7 @@ module _ (B : RattleType) (g : Ghosts B.Denot) (send : IsSend B) (sync : IsSync 
   world_sync =
       let contracts = vec_sync B g send sync frees (contract_row.the_row B g) (contract_sync B g send sync frees) in
       let cells = cells_sync B g send sync frees in
-      declared_sync (world_row.the_type B g) (as_row_sync (row_field (vec_row.the_row (contract_row.the_row B g) B g)) contracts, (as_row_sync (row_field (cells_row.the_row B g)) cells, tt))
+      declared_sync (world_row.the_type B g) (search (crosses, contracts) depth 60 fits 100000, (search (crosses, cells) depth 60 fits 100000, (search crosses depth 60 fits 100000, tt)))
 
   block_sync : IsSync (block_row.the_row B g)
   block_sync = let vec = vec_sync B g send sync frees in search (crosses, vec, position_sync) depth 60 fits 100000

@@ -1,25 +1,14 @@
 -- Runs that are handed back.
-use Rattle.std.proofs.Common.{◌≡◌, ℕ, List, [], ◌∷◌, ◌++◌, Option, Some, None, IfSome, set, slice_get, IfOk, sym, ap, subst, ◌∙◌}
+use Rattle.std.proofs.Common.{◌≡◌, ℕ, List, [], ◌∷◌, ◌++◌, Option, Some, None, IfSome, set, sym, subst}
 use Rattle.std.proofs.lemmas.List.Elements.{All-push, All-set}
-use Rattle.std.specs.declared.result.Result.{Result}
-use Rattle.std.specs.declared.result.Result.TheVariants.{Ok, Err}
-use Rattle.spec_execution.specs.Configuration.{Setting}
 use Rattle.spec_ledger.specs.declared.Op.{Op}
 use Rattle.spec_ledger.specs.declared.Reply.{Reply}
 use Rattle.spec_ledger.specs.Cells.{Cells, reply_to}
-use Rattle.spec_execution.specs.Run.{ContractCall, IsReply}
-use Rattle.serial.proofs.Replies.{is_reply}
-use Rattle.interp.specs.Played.{Played}
-use Rattle.in_order.specs.Progress.{IsRunOf}
+use Rattle.spec_execution.specs.Run.{IsReply}
+use Rattle.spec_execution.proofs.Replies.{is_reply}
 use Rattle.validator.specs.declared.job.Job.{Job}
 use Rattle.validator.specs.declared.job.PositionRun.{PositionRun}
 use Rattle.validator.specs.Handed.{IsMade, AreMade, AreFound}
-
--- what a machine that was started with the call of this number ends in
-pub is_run : {E : Type 0} (r : Result Played E) (setting lent : Setting) (calls : List ContractCall) (number : ℕ) (call : ContractCall)
-    → IfOk r (λ f. f.setting ≡ lent) → IfOk r (λ f. f.call ≡ call) → lent ≡ setting → slice_get calls number ≡ Some call → IfOk r (IsRunOf setting calls number)
-is_run (Ok f) setting lent calls number call l c same at = record { lent = l ∙ same; call_is = at ∙ ap (λ x. Some x) (sym c) }
-is_run (Err e) setting lent calls number call l c same at = tt
 
 -- the reply to an operation, where there is one
 pub reply_of : (op : Op) (cells : Cells) (o : Option Reply) (r : Reply) → IfSome o (λ x. x ≡ reply_to op cells) → o ≡ Some r → IsReply op r

@@ -2,7 +2,7 @@
 use Rattle.std.specs.Prelude.{◌≡◌, ℕ, List, Option, Result, Some, IfSome, IfOk, slice_get, All}
 use Rattle.interp.specs.Callee.{setting_view}
 use Rattle.interp.specs.Played.{Played}
-use Rattle.in_order.specs.Progress.{IsRunOf}
+use Rattle.serial.specs.Runs.{IsRunOf}
 use Rattle.validator.specs.declared.job.Job.{Job}
 use Rattle.validator.specs.declared.job.PositionRun.{PositionRun}
 use Rattle.validator.specs.declared.job.WorkerRuns.{WorkerRuns}

@@ -10,7 +10,6 @@ ghost use Rattle.validator.specs.Jobs.{IsJob};
 
 use crate::job::{Job, PositionResult, PositionRun};
 use crate::profile::allows;
-use ahead::Ahead;
 use call::Call;
 use in_order::Task;
 use interp::finished::Finished;
@@ -18,11 +17,11 @@ use interp::machine::Machine;
 use link::deployed::Deployed as Contract;
 use lock_profile::Profile;
 use pace::{Pace, Step, acquire, must_stop_at};
-use serial::{HostRequest, next_request};
+use serial::{Begun, HostRequest, begin, next_request};
 use spec_ledger::{NoMemory, Op, Reply, Version};
 use std::alloc::Allocator;
 use std::sync::{Mutex, Wait};
-use storage::returned;
+use storage::{Ahead, returned};
 
 /// Why a run is not made.
 #[derive(Drop)]
@@ -171,7 +170,7 @@ fn run<'a, A: Allocator + Copy, R: Wait, P: Pace>(
     }
 }
 
-/// Runs the call of a number to its end. A call without fuel for its first instruction is answered before an instance is made.
+/// Runs the call of a number to its end.
 fn play<'a, A: Allocator + Copy, R: Wait, P: Pace>(
     rt: &R,
     job: &Job<'_, 'a, A, P>,
@@ -189,16 +188,10 @@ fn play<'a, A: Allocator + Copy, R: Wait, P: Pace>(
     } = job.ordered.task;
     let call = &calls[number as usize];
     let _limit = call.fuel();
-    if let Some(finished) = Finished::without_fuel(alloc, contracts, call, version) {
-        return Ok(finished);
-    }
-    match Machine::start_as(alloc, contracts, call, version) {
-        Ok(machine) => run(rt, alloc, place, machine),
-        // Memory was refused where the call opens.
-        Err(_) => match Finished::rejected(alloc, contracts, call, version) {
-            Some(finished) => Ok(finished),
-            None => Err(Stop::NoMemory),
-        },
+    match begin(alloc, contracts, call, version) {
+        Ok(Begun::Ended(finished)) => Ok(finished),
+        Ok(Begun::Runs(machine)) => run(rt, alloc, place, machine),
+        Err(NoMemory) => Err(Stop::NoMemory),
     }
 }
 

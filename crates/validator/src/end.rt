@@ -5,45 +5,33 @@ ghost use Rattle.serial.specs.Positions.{results_of};
 ghost use Rattle.spec_block.specs.Worlds.{Call as TheCall};
 ghost use Rattle.sha2.specs.Sha256.{sha256};
 ghost use Rattle.spec_block.specs.Bytes.{world_bytes};
-ghost use Rattle.spec_block.specs.Blocks.{world_after as after};
 ghost use Rattle.spec_block.specs.Verdicts.{HoldsOf, RunOf};
 ghost use Rattle.block_judge.specs.Judging.{IsFirstFrom};
 ghost use Rattle.world.specs.Views.{world_view};
 ghost use Rattle.in_order.specs.Progress.{IsProgressOf};
 ghost use Rattle.validator.specs.Jobs.{IsJob};
-ghost use Rattle.validator.specs.Judged.{IsCompared, verdict_view};
-ghost use Rattle.validator.specs.Tried.{IsFirst, IsFit};
+ghost use Rattle.validator.specs.Judged.{Concludes, IsCompared, verdict_view};
+ghost use Rattle.validator.specs.Tried.{IsFirst, IsFit, MayRun};
 
 use crate::compare::{Compared, compare};
 use crate::job::Job;
+use crate::trial::Trial;
 use crate::verdict::{Validated, Verdict};
 use block::Block;
 use block_judge::Reason;
 use in_order::OrderProgress;
 use lock_profile::Touched;
 use pace::{Pace, digesters};
-use serial::copied;
+use serial::{Core, serial_core};
 use spec_ledger::{NoMemory, Receipt};
 use std::alloc::Allocator;
 use std::thread::{Threads, join};
-use storage::Cells;
-use world::{World, digest_world};
+use world::{World, digest_world, world_after};
 
 fn is_digest(a: &[u8; 32], b: &[u8; 32]) -> bool
     ensures { IsTrue result ↔ (a.now ≡ b.now) }
 {
     a == b
-}
-
-/// The same contracts over other cells.
-fn world_after<A: Allocator + Copy>(
-    alloc: A,
-    world: &World<A>,
-    cells: Cells<A>,
-) -> Result<World<A>, NoMemory>
-    ensures { IfOk result (λ next. world_view next ≡ after (world_view world.now) cells.cells) }
-{
-    Ok(World::new(copied(alloc, world.contracts())?, cells))
 }
 
 /// Compares what a block says of its calls with what they came to, and gives the digest of the world after them, each of the two by a thread of its own where
@@ -81,7 +69,30 @@ fn compare_and_digest<R: Threads + Sync, A: Allocator + Copy + Send + Sync>(
     Ok((compared, digest?))
 }
 
-/// The verdict on a block that none of the first seven reasons speaks against, whose calls came to this.
+/// The verdict on a block that none of the first seven reasons speaks against and whose calls left this world, by how what it says of them stands to what they
+/// came to, and by the digest of the world.
+fn verdict_by<A: Allocator>(
+    block: &Block<A>,
+    compared: Compared,
+    digest: &[u8; 32],
+    next: World<A>,
+) -> Verdict<A>
+    ensures { Concludes block.now compared digest.now (world_view next) (verdict_view result) }
+{
+    spec_block::one_serial_run();
+    if let Some(position) = compared.deviating {
+        return Verdict::Reject(Reason::Deviates(position));
+    }
+    if !compared.is_total {
+        return Verdict::Reject(Reason::WrongEnd);
+    }
+    if !is_digest(block.after(), digest) {
+        return Verdict::Reject(Reason::WrongEnd);
+    }
+    Verdict::Accept(next)
+}
+
+/// The verdict on a block that none of the first seven reasons speaks against, whose calls came to this. The world after a block that is accepted keeps its digest.
 fn conclude<R: Threads + Sync, A: Allocator + Copy + Send + Sync>(
     rt: &R,
     alloc: A,
@@ -95,7 +106,6 @@ fn conclude<R: Threads + Sync, A: Allocator + Copy + Send + Sync>(
     requires touched { length ran.touched.items ≡ length block.now.positions }
     ensures { IfOk result (λ verdict. (calls : List TheCall) (fuel : ℕ) → RunOf (world_view world.now) calls block.now (results_of ran.receipts.items ran.touched.items) ran.cells.cells → IsFirstFrom (HoldsOf (world_view world.now) calls fuel block.now) 8 (verdict_view verdict)) }
 {
-    spec_block::one_serial_run();
     let OrderProgress {
         receipts,
         touched,
@@ -107,16 +117,7 @@ fn conclude<R: Threads + Sync, A: Allocator + Copy + Send + Sync>(
     let (compared, digest) = compare_and_digest(
         rt, &alloc, block, receipts, touched, &next, threads,
     )?;
-    if let Some(position) = compared.deviating {
-        return Ok(Verdict::Reject(Reason::Deviates(position)));
-    }
-    if !compared.is_total {
-        return Ok(Verdict::Reject(Reason::WrongEnd));
-    }
-    if !is_digest(block.after(), &digest) {
-        return Ok(Verdict::Reject(Reason::WrongEnd));
-    }
-    Ok(Verdict::Accept(next))
+    Ok(verdict_by(block, compared, &digest, next.with_digest(digest)))
 }
 
 /// How many of the calls were not done by what they did ahead of their turn.
@@ -152,5 +153,35 @@ pub(crate) fn end<'a, R: Threads + Sync, A: Allocator + Copy + Send + Sync, P: P
         ran,
         workers,
     )?;
+    Ok(Validated { verdict, again })
+}
+
+/// What is found of a block that none of the first seven reasons speaks against: the caller runs its calls here, one after another.
+pub(crate) fn end_alone<A: Allocator + Copy>(
+    alloc: A,
+    trial: &Trial<'_, A>,
+) -> Result<Validated<A>, NoMemory>
+    requires trial { MayRun trial.now }
+    requires fit { IsFit trial.now }
+    ensures { IfOk result (λ found. IsFirst trial.now (verdict_view found.verdict)) }
+{
+    let Core {
+        receipts,
+        touched,
+        cells,
+    } = serial_core(
+        alloc,
+        trial.world.contracts(),
+        trial.world.cells(),
+        trial.calls,
+        trial.order,
+        trial.block.version(),
+    )?;
+    trial.block.use_invariant();
+    let again = trial.block.positions().len() as u32;
+    let next = world_after(alloc, trial.world, cells)?;
+    let compared = compare(trial.block, receipts, touched);
+    let digest = digest_world(alloc, &next)?;
+    let verdict = verdict_by(trial.block, compared, &digest, next);
     Ok(Validated { verdict, again })
 }

@@ -22,7 +22,7 @@ ghost use Rattle.validator.specs.Jobs.{IsJob};
 ghost use Rattle.validator.specs.Judged.{verdict_view};
 ghost use Rattle.validator.specs.Tried.{IsFirst, IsJudged, IsTrial, MayRun};
 
-use crate::end::end;
+use crate::end::{end, end_alone};
 use crate::job::Job;
 use crate::trial::Trial;
 use crate::verdict::verdict_on;
@@ -201,6 +201,57 @@ fn spelled_for<A: Allocator + Copy>(
     ensures rejected { IfErr result (λ unfit. IfRejected unfit (IsVerdictOf (world_view _world.now) _calls.now _fuel bytes.now)) }
 {
     spelled_by(alloc, bytes)
+}
+
+/// The verdict on a block that was read, by the caller alone. No call runs of a block that its order, its limits, its digests or its turns speak against.
+fn verdict_alone<A: Allocator + Copy>(
+    alloc: A,
+    tried: &Trial<'_, A>,
+) -> Result<Validated<A>, NoMemory>
+    requires { IsTrial tried.now }
+    ensures { IfOk result (λ found. IsFirst tried.now (verdict_view found.verdict)) }
+{
+    match judge_order(alloc, tried.calls, tried.fuel, tried.order) {
+        Ok(()) => match tried.judge(alloc) {
+            Ok(()) => end_alone(alloc, tried),
+            Err(unfit) => verdict_on(unfit),
+        },
+        Err(JudgeRefusal::Rejected(reason)) => verdict_on(first_unfit(alloc, tried, reason)),
+        Err(JudgeRefusal::NoMemory) => Err(NoMemory),
+    }
+}
+
+/// As [`find_verdict`], by the caller alone: no runtime is taken, no pace is told, and each call runs once at most.
+///
+/// # Errors
+///
+/// The allocator refused memory.
+pub fn validate_alone<A: Allocator + Copy>(
+    alloc: A,
+    world: &World<A>,
+    calls: &[Call],
+    block_fuel: u64,
+    bytes: &[u8],
+) -> Result<Validated<A>, NoMemory>
+    requires { length calls.now ≤ 65535 }
+    ensures verdict { IfOk result (λ v. IsVerdictOf (world_view world.now) calls.now block_fuel bytes.now (verdict_view v.verdict)) }
+{
+    block_judge::first_is_verdict();
+    let block = match spelled_for(alloc, world, calls, block_fuel, bytes) {
+        Ok(block) => block,
+        Err(unfit) => return verdict_on(unfit),
+    };
+    block.use_invariant();
+    let order = numbers_of(alloc, &block)?;
+    let trial = Trial {
+        world,
+        calls,
+        fuel: block_fuel,
+        block: &block,
+        order: &order,
+    };
+    let validated = verdict_alone(alloc, &trial)?;
+    Ok(validated)
 }
 
 /// As [`validate_in`], with how many positions the caller ran in their turn: a measure of the workers' use, on which no verdict rests.

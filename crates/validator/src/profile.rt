@@ -1,7 +1,7 @@
 //! The profiles of a block's positions, and what a position's call may ask for.
 
 ghost use Rattle.std.specs.Prelude.{◌≡◌, IfOk};
-ghost use Rattle.block_judge.specs.Turned.{lists_of};
+ghost use Rattle.spec_block.specs.Worlds.{profiles_in};
 
 use abstract_locks::join_to;
 use block::Position;
@@ -10,29 +10,16 @@ use spec_ledger::{NoMemory, Op};
 use std::alloc::Allocator;
 use storage::{lock, mode};
 
-/// The profile of a position once more.
-fn profile_of<A: Allocator + Copy>(alloc: A, position: &Position<A>) -> Result<Profile<A>, NoMemory>
-    ensures { IfOk result (λ copy. copy ≡ position.now.profile) }
-{
-    let profile = position.profile();
-    profile.use_invariant();
-    let entries = Vec::from_slice(alloc, profile.entries())?;
-    let Some(copy) = Profile::from_sorted(entries) else {
-        unreachable!()
-    };
-    Ok(copy)
-}
-
 /// The profiles of all positions once more.
 pub(crate) fn profiles_of<A: Allocator + Copy>(
     alloc: A,
     positions: &[Position<A>],
 ) -> Result<Vec<Profile<A>, A>, NoMemory>
-    ensures { IfOk result (λ copy. copy.items ≡ lists_of positions.now) }
+    ensures { IfOk result (λ copy. copy.items ≡ profiles_in positions.now) }
 {
     let mut copy = Vec::new(alloc);
     for position in positions {
-        copy.push(profile_of(alloc, position)?)?;
+        copy.push(position.profile().copy(alloc)?)?;
     }
     Ok(copy)
 }

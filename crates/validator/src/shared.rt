@@ -1,6 +1,5 @@
 // What the workers share beside the job.
 
-use ahead::Ahead;
 use lanes::Lane;
 use pace::acquire;
 use schedule::{Board, EndRefusal};
@@ -8,6 +7,7 @@ use spec_ledger::NoMemory;
 use std::alloc::Allocator;
 use std::sync::atomic::{AtomicBool, AtomicU64, Ordering};
 use std::sync::{Mutex, Wait};
+use storage::Ahead;
 
 /// The board, the cells, and when to leave. The two locks are never held at once. No fact rests on the last two.
 #[derive(Drop)]

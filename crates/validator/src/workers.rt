@@ -10,7 +10,6 @@ use crate::attempt::attempt;
 use crate::job::{Job, PositionResult, PositionRun, WorkerRuns};
 use crate::profile::profiles_of;
 use crate::shared::Shared;
-use ahead::Ahead;
 use in_order::{OrderProgress, begin, go_on};
 use interp::finished::Finished;
 use lanes::{Lane, Thief, lanes};
@@ -22,6 +21,7 @@ use std::sync::atomic::{AtomicBool, AtomicU64, Ordering};
 use std::sync::{Mutex, Wait};
 use std::thread;
 use std::thread::Threads;
+use storage::Ahead;
 
 /// The runs of all workers.
 type AllWorkerRuns<'a, A> = Vec<Result<WorkerRuns<'a, A>, NoMemory>, A>;

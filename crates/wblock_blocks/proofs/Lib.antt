@@ -1,2 +1,4 @@
+mod FlatObjects
 mod Notes
-mod Versions
+mod Rejected
+mod Silent

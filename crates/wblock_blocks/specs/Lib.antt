@@ -1,4 +1,5 @@
 pub mod Mines
 pub mod Notes
+pub mod Objects
 pub mod Texts
 pub mod Validates

@@ -3,9 +3,9 @@
 
 mod mine;
 mod note;
+mod objects;
 mod text;
 mod validate;
 
-pub use mine::{Mining, mine_block};
-pub use note::Noted;
-pub use validate::{Validation, validate_block};
+pub use mine::{Mining, mine_block, mine_over};
+pub use validate::{Validation, validate_block, validate_over};

@@ -11,16 +11,7 @@ use link::deployed::Deployed;
 use spec_ledger::Outcome;
 use std::alloc::{AllocError, Global};
 use std::fmt;
-use wblock_line::{Answer, entry_words};
-
-/// What a command comes to, and what is said on standard error once it is done.
-#[derive(Debug, Drop)]
-pub struct Noted<'a> {
-    /// What it comes to.
-    pub answer: Answer<'a>,
-    /// Lines, each with its newline, or nothing.
-    pub note: String,
-}
+use wblock_words::entry_words;
 
 /// The calls that ended in one way, which is no return.
 #[derive(Clone, Copy, Debug)]

@@ -1,3 +1,4 @@
 pub mod TextLemmas
 pub mod WordLemmas
 pub mod LineLemmas
+pub mod Beginning

@@ -4,3 +4,4 @@ pub mod Refusals
 pub mod Receipts
 pub mod Rows
 pub mod Words
+pub mod Sentences

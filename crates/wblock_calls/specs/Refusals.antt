@@ -1,7 +1,7 @@
 -- What a refusal of a text says.
 use Rattle.std.specs.Prelude.{◌≡◌, ℕ, ◌<◌, List, [], ◌∷◌, ◌++◌, Option, Some, None, codes, decimal, length}
 use Rattle.spec_execution.specs.Run.{ContractCall}
-use Rattle.wblock_words.specs.Sentences.{Begins}
+use Rattle.wblock_calls.specs.Sentences.{Begins}
 use Rattle.wblock_calls.specs.Texts.{SpellsCalls, IsFirstBad}
 use Rattle.wblock_calls.specs.declared.reader.CallsRefusal.{CallsRefusal}
 use Rattle.wblock_calls.specs.declared.reader.CallsRefusal.TheVariants.{Line, TooMany, NoMemory}

@@ -4,11 +4,11 @@ ghost use Rattle.std.specs.Prelude.{IfOk, string_bytes};
 ghost use Rattle.wblock_calls.specs.Refusals.{TellsLine};
 
 use crate::reader::{CallsRefusal, MOST_CALLS};
+use crate::sentence::{place_line, shown};
 use crate::words::{is_plain, number_of, values_of};
 use call::Call;
 use std::alloc::{AllocError, Global};
 use std::str::from_utf8;
-use wblock_words::{place_line, shown};
 
 /// What is wrong with a word of a line that spells no call.
 #[derive(Clone, Copy, Debug, PartialEq, Eq)]

@@ -44,7 +44,7 @@ pub(crate) fn call_of(alloc: Global, line: &[u8]) -> Result<Option<Call>, AllocE
 }
 
 /// What stands between the spaces of a line.
-fn split_words<'a>(alloc: Global, line: &'a str) -> Result<Vec<&'a str>, AllocError>
+pub fn split_words<'a>(alloc: Global, line: &'a str) -> Result<Vec<&'a str>, AllocError>
     ensures { IfOk result (λ v. map (λ w. w.now) v.items ≡ words_of line.entry.now) }
 {
     line.split(' ').collect(alloc)

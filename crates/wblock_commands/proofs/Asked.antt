@@ -7,15 +7,15 @@ use Rattle.wblock_commands.specs.declared.command.Deploying.{Deploying}
 use Rattle.wblock_show.specs.declared.file.Showing.{Showing}
 use Rattle.wblock_commands.specs.Words.{AsksStored, AsksAsm, AsksText, AsksCheck, AsksDeploy, AsksShow, AsksNoTask, AsksHelp, IsTold, IsLineOf}
 
-pub nothing_asked : (l : Line) → ¬ AsksStored l → ((text target : List ℕ) → ¬ AsksAsm l text target) → ((source target : List ℕ) (unchecked : Bool) → ¬ AsksText l source target unchecked)
-    → ((target : List ℕ) (heap : Option ℕ) → ¬ AsksCheck l target heap) → ((d : Deploying) → ¬ AsksDeploy l d)
+pub nothing_asked : (l : Line) → ¬ AsksStored l → ((text target : List ℕ) (json : Bool) → ¬ AsksAsm l text target json) → ((source target : List ℕ) (unchecked json : Bool) → ¬ AsksText l source target unchecked json)
+    → ((target : List ℕ) (heap : Option ℕ) (json : Bool) → ¬ AsksCheck l target heap json) → ((d : Deploying) → ¬ AsksDeploy l d)
     → ((s : Showing) → ¬ AsksShow l s) → AsksNoTask l → (c : Command) → IsLineOf l c → ⊥
 nothing_asked l s a w k d h t Stored x = s x
 nothing_asked l s a w k d h t (Help words) x = x
 nothing_asked l s a w k d h t Version x = x
-nothing_asked l s a w k d h t (Asm text target) x = a text.now target.now x
-nothing_asked l s a w k d h t (Text source target unchecked) x = w source.now target.now unchecked x
-nothing_asked l s a w k d h t (Check target heap) x = k target.now heap x
+nothing_asked l s a w k d h t (Asm text target json) x = a text.now target.now json x
+nothing_asked l s a w k d h t (Text source target unchecked json) x = w source.now target.now unchecked json x
+nothing_asked l s a w k d h t (Check target heap json) x = k target.now heap json x
 nothing_asked l s a w k d h t (Deploy task) x = d task x
 nothing_asked l s a w k d h t (Mine task) x = t.mining task x
 nothing_asked l s a w k d h t (Validate task) x = t.validation task x
@@ -27,9 +27,9 @@ pub nothing_told : (words : List (List ℕ)) → ¬ AsksHelp words → ¬ (words
 nothing_told words h v Stored x = x
 nothing_told words h v (Help asked) x = h x
 nothing_told words h v Version x = v x
-nothing_told words h v (Asm text target) x = x
-nothing_told words h v (Text source target unchecked) x = x
-nothing_told words h v (Check target heap) x = x
+nothing_told words h v (Asm text target json) x = x
+nothing_told words h v (Text source target unchecked json) x = x
+nothing_told words h v (Check target heap json) x = x
 nothing_told words h v (Deploy task) x = x
 nothing_told words h v (Mine task) x = x
 nothing_told words h v (Validate task) x = x

@@ -1,3 +1,4 @@
+mod Heaps
 mod Noting
 pub mod Numbers
 mod Saying

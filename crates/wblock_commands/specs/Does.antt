@@ -3,17 +3,17 @@ use Rattle.std.specs.Prelude.{◌≡◌, ℕ, ◌⊎◌, List, [], ◌++◌, str
 use Rattle.wblock_io.specs.Holding.{Holding, Failing, IsFailed}
 use Rattle.wblock_line.specs.declared.answer.Answer.{Answer}
 use Rattle.wblock_line.specs.declared.perform.Status.{Status}
-use Rattle.wblock_line.specs.Answers.{status_of, writes_of, text_of, Wrote, IsFailing, IsSaid}
+use Rattle.wblock_line.specs.Answers.{EndsLine, upshot_of, status_of, writes_of, text_of, Wrote, IsFailing, IsSaid}
 use Rattle.wblock_commands.specs.Stored.{ShowsStored}
-use Rattle.wblock_commands.specs.Texts.{TellsText}
+use Rattle.wblock_usage.specs.Texts.{TellsText}
 use Rattle.wblock_modules.specs.Assembles.{Assembles}
 use Rattle.wblock_modules.specs.Checks.{Checks}
 use Rattle.wblock_modules.specs.Texts.{WritesText}
 use Rattle.wblock_line.specs.Inputs.{IsNextInput}
 use Rattle.wblock_blocks.specs.Mines.{Mines}
-use Rattle.wblock_blocks.specs.Notes.{EndsLine, Notes}
+use Rattle.wblock_blocks.specs.Notes.{Notes}
 use Rattle.wblock_blocks.specs.Validates.{Validates, IsNextFile}
-use Rattle.wblock_debug.specs.Calling.{Calls}
+use Rattle.wblock_call.specs.Calling.{Calls}
 use Rattle.wblock_debug.specs.Debugs.{Debugs, IsNotListed, IsNextRead}
 use Rattle.wblock_show.specs.Named.{ShowsNamed, IsNextNamed}
 use Rattle.wblock_commands.specs.declared.command.Command.{Command}
@@ -25,13 +25,13 @@ abbrev pub Answers : Command → Holding → Answer → Type 0
 Answers Stored holds answer = ShowsStored answer
 Answers (Help words) holds answer = TellsText answer
 Answers Version holds answer = TellsText answer
-Answers (Asm text target) holds answer = Assembles holds text.now target.now answer
-Answers (Text source target unchecked) holds answer = WritesText unchecked holds source.now target.now answer
-Answers (Check target heap) holds answer = Checks holds target.now answer
-Answers (Deploy task) holds answer = DeploysFree task holds answer
-Answers (Mine task) holds answer = Mines holds task answer
-Answers (Validate task) holds answer = Validates holds task answer
-Answers (Call task) holds answer = Calls holds task answer
+Answers (Asm text target json) holds answer = Assembles json holds text.now target.now answer
+Answers (Text source target unchecked json) holds answer = WritesText unchecked json holds source.now target.now answer
+Answers (Check target heap json) holds answer = Checks json holds target.now answer
+Answers (Deploy task) holds answer = DeploysFree task holds (upshot_of answer)
+Answers (Mine task) holds answer = Mines holds task (upshot_of answer)
+Answers (Validate task) holds answer = Validates holds task (upshot_of answer)
+Answers (Call task) holds answer = Calls holds task (upshot_of answer)
 Answers (Debug task) holds answer = Debugs holds task answer
 Answers (Show task) holds answer = ShowsNamed holds task answer
 
@@ -54,7 +54,7 @@ IsMine c = ⊥
 
 -- what is to be said of an answer once it is carried out: nothing, but by `mine` what its calls came to
 abbrev pub IsNote : Command → Answer → List ℕ → Type 0
-IsNote (Mine task) answer note = Notes answer note
+IsNote (Mine task) answer note = Notes (upshot_of answer) note
 IsNote c answer note = note ≡ []
 
 -- the answer of this status was written whole, and printed whole where the output tells what it took
@@ -76,9 +76,9 @@ abbrev pub Reads : Command → Holding → List ℕ → Type 0
 Reads Stored holds name = ⊥
 Reads (Help words) holds name = ⊥
 Reads Version holds name = ⊥
-Reads (Asm text target) holds name = name ≡ text.now
-Reads (Text source target unchecked) holds name = name ≡ source.now
-Reads (Check target heap) holds name = name ≡ target.now
+Reads (Asm text target json) holds name = name ≡ text.now
+Reads (Text source target unchecked json) holds name = name ≡ source.now
+Reads (Check target heap json) holds name = name ≡ target.now
 Reads (Deploy task) holds name = IsNextToDeploy task holds name
 Reads (Mine task) holds name = IsNextInput holds task.world.now task.calls.now name
 Reads (Validate task) holds name = IsNextFile holds task name

@@ -4,5 +4,4 @@ pub mod Does
 pub mod Runs
 pub mod Stored
 pub mod Options
-pub mod Texts
 pub mod Words

@@ -37,6 +37,14 @@ AsksWorkers options n = IsNumberOr 4 (values_in (codes "--workers") options) 1 6
 abbrev pub AsksTries : List Choice → ℕ → Type 0
 AsksTries options n = IsNumberOr 3 (values_in (codes "--tries") options) 1 16 n
 
+-- `--heap N`, a number of bytes that a heap may have; or nothing
+abbrev pub IsHeap : List (List ℕ) → Option ℕ → Type 0
+IsHeap values None = values ≡ []
+IsHeap values (Some n) = IsNumber values 1024 16777216 n
+
+abbrev pub AsksHeap : List Choice → Option ℕ → Type 0
+AsksHeap options heap = IsHeap (values_in (codes "--heap") options) heap
+
 -- an option is given once, and its value is this name; or it is not given
 abbrev pub IsNameOrNone : List (List ℕ) → Option (Bor (List ℕ)) → Type 0
 IsNameOrNone values (Some name) = values ≡ name.now ∷ []
@@ -77,19 +85,30 @@ AsksOnto options old = IsNameOrNone (values_in (codes "--onto") options) old
 abbrev pub AsksBoosted : List Choice → Bool → Type 0
 AsksBoosted options boosted = IsSwitch (values_in (codes "--boosted") options) boosted
 
+-- `--json`, once and without a value, or not
+abbrev pub AsksJson : List Choice → Bool → Type 0
+AsksJson options json = IsSwitch (values_in (codes "--json") options) json
+
+-- `--unchecked`, once and without a value, or not
+abbrev pub AsksUnchecked : List Choice → Bool → Type 0
+AsksUnchecked options unchecked = IsSwitch (values_in (codes "--unchecked") options) unchecked
+
 -- `--signed`, once and without a value, or not
 abbrev pub AsksSigned : List Choice → Bool → Type 0
 AsksSigned options signed = IsSwitch (values_in (codes "--signed") options) signed
 
 -- no option has another name: together these are as many as there are options
 abbrev pub HasOnlyMining : List Choice → Type 0
-HasOnlyMining options = length options ≡ count_of (codes "--fuel") options + count_of (codes "--workers") options + count_of (codes "--boosted") options + count_of (codes "--tries") options
+HasOnlyMining options = length options ≡ count_of (codes "--fuel") options + count_of (codes "--workers") options + count_of (codes "--boosted") options + count_of (codes "--tries") options + count_of (codes "--json") options
 
 abbrev pub HasOnlyValidation : List Choice → Type 0
-HasOnlyValidation options = length options ≡ count_of (codes "--fuel") options + count_of (codes "--workers") options + count_of (codes "--boosted") options + count_of (codes "--next") options
+HasOnlyValidation options = length options ≡ count_of (codes "--fuel") options + count_of (codes "--workers") options + count_of (codes "--boosted") options + count_of (codes "--next") options + count_of (codes "--json") options
+
+abbrev pub HasOnlyTwo : (first second : List ℕ) → List Choice → Type 0
+HasOnlyTwo first second options = length options ≡ count_of first options + count_of second options
 
 abbrev pub HasOnlyDeploying : List Choice → Type 0
-HasOnlyDeploying options = length options ≡ count_of (codes "--onto") options + count_of (codes "--force") options
+HasOnlyDeploying options = length options ≡ count_of (codes "--onto") options + count_of (codes "--force") options + count_of (codes "--json") options
 
 abbrev pub HasOnlyShowing : List Choice → Type 0
 HasOnlyShowing options = length options ≡ count_of (codes "--calls") options + count_of (codes "--json") options + count_of (codes "--svg") options + count_of (codes "--signed") options

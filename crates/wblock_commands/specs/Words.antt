@@ -1,16 +1,16 @@
 -- What the words of a line ask for.
-use Rattle.std.specs.Prelude.{◌≡◌, ◌≢◌, ℕ, ◌<◌, ◌≤◌, ◌⊎◌, Bool, true, false, List, [], ◌∷◌, Option, Some, None, IfSome, codes, decimal, length}
+use Rattle.std.specs.Prelude.{◌≡◌, ◌≢◌, ℕ, ◌<◌, ◌≤◌, ◌⊎◌, List, [], ◌∷◌, Bool, Option, Some, None, IfSome, codes, length}
 use Rattle.std.specs.Borrow.{Bor}
 use Rattle.wblock_calls.specs.Words.{texts}
-use Rattle.wblock_line.specs.Words.{Line, Choice, split}
+use Rattle.wblock_line.specs.Words.{AsksAlone, Line, split}
 use Rattle.wblock_commands.specs.declared.command.Command.{Command}
 use Rattle.wblock_commands.specs.declared.command.Command.TheVariants.{Stored, Help, Version, Asm, Text, Check, Deploy, Mine, Validate, Call, Debug, Show}
 use Rattle.wblock_commands.specs.declared.command.Deploying.{Deploying}
-use Rattle.wblock_commands.specs.Options.{AsksFuel, AsksWorkers, AsksTries, AsksBoosted, AsksNext, AsksCalls, AsksForm, AsksSigned, AsksForce, AsksOnto, HasOnlyDeploying, HasOnlyMining, HasOnlyValidation, HasOnlyShowing}
+use Rattle.wblock_commands.specs.Options.{AsksFuel, AsksWorkers, AsksTries, AsksBoosted, AsksNext, AsksCalls, AsksForm, AsksJson, AsksSigned, AsksUnchecked, AsksForce, AsksHeap, AsksOnto, HasOnlyDeploying, HasOnlyMining, HasOnlyTwo, HasOnlyValidation, HasOnlyShowing}
 use Rattle.wblock_debug.specs.Asks.{AsksDebug}
-use Rattle.wblock_debug.specs.Calling.{AsksCall}
+use Rattle.wblock_call.specs.Calling.{AsksCall}
 use Rattle.wblock_debug.specs.declared.asked.Debugging.{Debugging}
-use Rattle.wblock_debug.specs.declared.called.Calling.{Calling}
+use Rattle.wblock_call.specs.declared.called.Calling.{Calling}
 use Rattle.wblock_blocks.specs.declared.mine.Mining.{Mining}
 use Rattle.wblock_blocks.specs.declared.validate.Validation.{Validation}
 use Rattle.wblock_show.specs.declared.file.Form.{Form}
@@ -22,43 +22,31 @@ abbrev pub IsApart : List ℕ → List (List ℕ) → Type 0
 IsApart word [] = Unit {0}
 IsApart word (other ∷ others) = (other ≢ word) × IsApart word others
 
--- the word is a number of bytes that a heap may have
-pub record IsSize (word : List ℕ) (n : ℕ) : Type 0 where
-  pub spelled : word ≡ decimal n
-  pub enough : 1024 ≤ n
-  pub few : n ≤ 16777216
-
--- `--heap N`, or nothing
-abbrev pub AsksHeap : List Choice → Option ℕ → Type 0
-AsksHeap options None = options ≡ []
-AsksHeap options (Some n) = (word : List ℕ) × (options ≡ (codes "--heap", word) ∷ []) × IsSize word n
-
 -- no words
 pub record AsksStored (line : Line) : Type 0 where
   pub words : line.words ≡ []
   pub options : line.options ≡ []
 
--- `asm TEXT MODULE`, of different names
-pub record AsksAsm (line : Line) (text target : List ℕ) : Type 0 where
+-- `asm TEXT MODULE [--json]`, of different names
+pub record AsksAsm (line : Line) (text target : List ℕ) (json : Bool) : Type 0 where
   pub words : line.words ≡ codes "asm" ∷ text ∷ target ∷ []
-  pub options : line.options ≡ []
+  pub options : AsksAlone (codes "--json") line.options json
   pub apart : text ≢ target
 
--- the switch of this name alone and without a value, or nothing
-abbrev pub AsksAlone : (name : List ℕ) → List Choice → Bool → Type 0
-AsksAlone name options true = options ≡ (name, []) ∷ []
-AsksAlone name options false = options ≡ []
-
--- `text MODULE TEXT [--unchecked]`, of different names
-pub record AsksText (line : Line) (source target : List ℕ) (unchecked : Bool) : Type 0 where
+-- `text MODULE TEXT [--unchecked] [--json]`, of different names
+pub record AsksText (line : Line) (source target : List ℕ) (unchecked json : Bool) : Type 0 where
   pub words : line.words ≡ codes "text" ∷ source ∷ target ∷ []
-  pub options : AsksAlone (codes "--unchecked") line.options unchecked
+  pub unchecked_is : AsksUnchecked line.options unchecked
+  pub json_is : AsksJson line.options json
+  pub only : HasOnlyTwo (codes "--unchecked") (codes "--json") line.options
   pub apart : source ≢ target
 
--- `check MODULE [--heap N]`
-pub record AsksCheck (line : Line) (target : List ℕ) (heap : Option ℕ) : Type 0 where
+-- `check MODULE [--heap N] [--json]`
+pub record AsksCheck (line : Line) (target : List ℕ) (heap : Option ℕ) (json : Bool) : Type 0 where
   pub words : line.words ≡ codes "check" ∷ target ∷ []
-  pub options : AsksHeap line.options heap
+  pub heap_is : AsksHeap line.options heap
+  pub json_is : AsksJson line.options json
+  pub only : HasOnlyTwo (codes "--heap") (codes "--json") line.options
 
 -- `deploy WORLD MODULE...`, WORLD of a name that no MODULE has, whatever the options
 pub record NamesModules (words : List (List ℕ)) (world : List ℕ) (modules : List (List ℕ)) : Type 0 where
@@ -67,11 +55,12 @@ pub record NamesModules (words : List (List ℕ)) (world : List ℕ) (modules : 
   pub few : length modules ≤ 1024
   pub apart : IsApart world modules
 
--- `deploy WORLD MODULE... [--onto OLD] [--force]`
+-- `deploy WORLD MODULE... [--onto OLD] [--force] [--json]`
 pub record AsksDeploy (line : Line) (d : Deploying) : Type 0 where
   pub names : NamesModules line.words d.world.now (texts d.modules.now)
   pub onto : AsksOnto line.options d.onto
   pub force : AsksForce line.options d.forced
+  pub json : AsksJson line.options d.json
   pub only : HasOnlyDeploying line.options
 
 -- what is written takes the place of no input and of no other output: BLOCK has a name of its own, and NEXT another than CALLS; NEXT may be WORLD
@@ -81,34 +70,36 @@ pub record KeepsInputs (m : Mining) : Type 0 where
   pub block : m.next.now ≢ m.block.now
   pub list : m.calls.now ≢ m.next.now
 
--- `mine WORLD CALLS BLOCK NEXT --fuel N [--workers 4] [--boosted] [--tries 3]`
+-- `mine WORLD CALLS BLOCK NEXT --fuel N [--workers 4] [--boosted] [--tries 3] [--json]`
 pub record AsksMine (line : Line) (m : Mining) : Type 0 where
   pub words : line.words ≡ codes "mine" ∷ m.world.now ∷ m.calls.now ∷ m.block.now ∷ m.next.now ∷ []
   pub fuel : AsksFuel line.options m.fuel
   pub workers : AsksWorkers line.options m.workers
   pub tries : AsksTries line.options m.tries
   pub boosted : AsksBoosted line.options m.boosted
+  pub json : AsksJson line.options m.json
   pub only : HasOnlyMining line.options
   pub apart : KeepsInputs m
 
--- `validate WORLD CALLS BLOCK --fuel N [--workers 4]`, and maybe `--boosted` and `--next`
+-- `validate WORLD CALLS BLOCK --fuel N [--workers 4]`, and maybe `--boosted`, `--next` and `--json`
 pub record CountsValidate (line : Line) (world calls block : List ℕ) (fuel workers : ℕ) : Type 0 where
   pub words : line.words ≡ codes "validate" ∷ world ∷ calls ∷ block ∷ []
   pub fuel_is : AsksFuel line.options fuel
   pub workers_are : AsksWorkers line.options workers
   pub only : HasOnlyValidation line.options
 
--- `validate WORLD CALLS BLOCK --fuel N [--workers 4] [--boosted] [--next NEXT]`, whatever NEXT is
+-- `validate WORLD CALLS BLOCK --fuel N [--workers 4] [--boosted] [--next NEXT] [--json]`, whatever NEXT is
 pub record SpellsValidate (line : Line) (v : Validation) : Type 0 where
   pub counts : CountsValidate line v.world.now v.calls.now v.block.now v.fuel v.workers
   pub boosted : AsksBoosted line.options v.boosted
   pub next : AsksNext line.options v.next
+  pub json : AsksJson line.options v.json
 
 -- the world after the block takes the place of neither the calls nor the block; it may take that of the world
 abbrev pub NextIsApart : Validation → Type 0
 NextIsApart v = IfSome v.next (λ next. (v.calls.now ≢ next.now) × (v.block.now ≢ next.now))
 
--- `validate WORLD CALLS BLOCK --fuel N [--workers 4] [--boosted] [--next NEXT]`, NEXT of a name that neither CALLS nor BLOCK has
+-- `validate WORLD CALLS BLOCK --fuel N [--workers 4] [--boosted] [--next NEXT] [--json]`, NEXT of a name that neither CALLS nor BLOCK has
 pub record AsksValidate (line : Line) (v : Validation) : Type 0 where
   pub spells : SpellsValidate line v
   pub apart : NextIsApart v
@@ -146,9 +137,9 @@ abbrev pub IsLineOf : Line → Command → Type 0
 IsLineOf line Stored = AsksStored line
 IsLineOf line (Help words) = ⊥
 IsLineOf line Version = ⊥
-IsLineOf line (Asm text target) = AsksAsm line text.now target.now
-IsLineOf line (Text source target unchecked) = AsksText line source.now target.now unchecked
-IsLineOf line (Check target heap) = AsksCheck line target.now heap
+IsLineOf line (Asm text target json) = AsksAsm line text.now target.now json
+IsLineOf line (Text source target unchecked json) = AsksText line source.now target.now unchecked json
+IsLineOf line (Check target heap json) = AsksCheck line target.now heap json
 IsLineOf line (Deploy task) = AsksDeploy line task
 IsLineOf line (Mine task) = AsksMine line task
 IsLineOf line (Validate task) = AsksValidate line task
@@ -179,9 +170,9 @@ abbrev pub HasFew : Command → Type 0
 HasFew Stored = Unit {0}
 HasFew (Help words) = Unit {0}
 HasFew Version = Unit {0}
-HasFew (Asm text target) = Unit {0}
-HasFew (Text source target unchecked) = Unit {0}
-HasFew (Check target heap) = Unit {0}
+HasFew (Asm text target json) = Unit {0}
+HasFew (Text source target unchecked json) = Unit {0}
+HasFew (Check target heap json) = Unit {0}
 HasFew (Deploy task) = length task.modules.now ≤ 1024
 HasFew (Mine task) = ((1 ≤ task.workers) × (task.workers ≤ 64)) × ((1 ≤ task.tries) × (task.tries ≤ 16))
 HasFew (Validate task) = (1 ≤ task.workers) × (task.workers ≤ 64)

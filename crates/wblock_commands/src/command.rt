@@ -1,27 +1,28 @@
 //! What a line of words asks for.
 
-ghost use Rattle.std.specs.Prelude.{◌≡◌, ◌≢◌, ◌≤◌, ◌↔◌, ℕ, Bool, List, [], ◌∷◌, Option, IfOk, IfSome, IsTrue, MatchOption, codes, decimal};
+ghost use Rattle.std.specs.Prelude.{◌≡◌, ◌↔◌, ℕ, List, [], ◌∷◌, Bool, Option, IfOk, IfSome, IsTrue, MatchOption, codes};
 ghost use Rattle.wblock_line.specs.Words.{line_of};
 ghost use Rattle.wblock_calls.specs.Words.{texts};
 ghost use Rattle.wblock_line.specs.Words.{choices};
-ghost use Rattle.wblock_commands.specs.Words.{AsksStored, AsksAsm, AsksText, AsksShow, AsksHeap, IsSize, AsksCheck, AsksAlone, NamesModules, AsksDeploy, AsksMine, AsksValidate, CountsValidate, SpellsValidate, AsksNoTask, IsLineOf, IsApart, KeepsInputs, NextIsApart, SpellsShow, PictureIsApart, AsksHelp, IsTold, HasFew};
+ghost use Rattle.wblock_commands.specs.Words.{AsksStored, AsksAsm, AsksText, AsksShow, AsksCheck, NamesModules, AsksDeploy, AsksMine, AsksValidate, CountsValidate, SpellsValidate, AsksNoTask, IsLineOf, IsApart, KeepsInputs, NextIsApart, SpellsShow, PictureIsApart, AsksHelp, IsTold, HasFew};
 ghost use Rattle.wblock_commands.specs.declared.command.Command.{Command as Asked};
 ghost use Rattle.wblock_commands.specs.declared.command.Deploying.{Deploying as TheDeploying};
 ghost use Rattle.wblock_blocks.specs.declared.mine.Mining.{Mining as TheMining};
 ghost use Rattle.wblock_blocks.specs.declared.validate.Validation.{Validation as TheValidation};
 ghost use Rattle.wblock_show.specs.declared.file.Showing.{Showing as TheShowing};
 
-use crate::declared::HEAP;
 use crate::options::{
     boosted_in, calls_in, force_in, form_in, fuel_in, has_only_deploying, has_only_mining,
-    has_only_showing, has_only_validation, next_in, number_within, onto_in, signed_in, tries_in,
-    workers_in,
+    has_only_showing, has_only_two, has_only_validation, heap_in, json_in, next_in, onto_in,
+    signed_in, tries_in, unchecked_in, workers_in,
 };
 use std::alloc::{AllocError, Global};
 use wblock_blocks::{Mining, Validation};
-use wblock_debug::{Calling, Debugging, calling_of, debugging_of};
-use wblock_line::{Line, UNCHECKED_SWITCH};
+use wblock_call::{Calling, calling_of};
+use wblock_debug::{Debugging, debugging_of};
+use wblock_line::{JSON_SWITCH, Line, UNCHECKED_SWITCH, is_word, switch_alone};
 use wblock_show::{Form, Showing};
+use wblock_usage::declared::HEAP;
 
 /// What is to be deployed.
 #[derive(Clone, Copy, Debug)]
@@ -34,6 +35,8 @@ pub struct Deploying<'l, 'w> {
     pub onto: Option<&'w str>,
     /// Whether the world may be written in the place of a file that is there.
     pub forced: bool,
+    /// Whether it is told as JSON.
+    pub json: bool,
 }
 
 /// A command with its words.
@@ -45,19 +48,19 @@ pub enum Command<'l, 'w> {
     Help(&'l [&'w str]),
     /// `--version` alone: the program's name and version.
     Version,
-    /// `asm TEXT MODULE`: the module that a text names, in its shortest spelling.
-    Asm(&'w str, &'w str),
-    /// `text MODULE TEXT [--unchecked]`: a text that names a module, which is valid; or, with the switch, valid or not.
-    Text(&'w str, &'w str, bool),
-    /// `check MODULE [--heap N]`: whether a module is valid, its tree in an arena or in a heap of N bytes, 1,024 to 16,777,216.
-    Check(&'w str, Option<u32>),
-    /// `deploy WORLD MODULE... [--onto OLD] [--force]`: the world of these modules, 1 to 1,024, behind the contracts of OLD.
+    /// `asm TEXT MODULE [--json]`: the module that a text names, in its shortest spelling; told as JSON or not.
+    Asm(&'w str, &'w str, bool),
+    /// `text MODULE TEXT [--unchecked] [--json]`: a text that names a module, which is valid; or, with the first switch, valid or not; told as JSON or not.
+    Text(&'w str, &'w str, bool, bool),
+    /// `check MODULE [--heap N] [--json]`: whether a module is valid, its tree in an arena or in a heap of N bytes, 1,024 to 16,777,216; told as JSON or not.
+    Check(&'w str, Option<u32>, bool),
+    /// `deploy WORLD MODULE... [--onto OLD] [--force] [--json]`: the world of these modules, 1 to 1,024, behind the contracts of OLD.
     Deploy(Deploying<'l, 'w>),
-    /// `mine WORLD CALLS BLOCK NEXT --fuel N [--workers 4] [--boosted] [--tries 3]`: a block of the calls over the world, and the world after it.
+    /// `mine WORLD CALLS BLOCK NEXT --fuel N [--workers 4] [--boosted] [--tries 3] [--json]`: a block of the calls over the world, and the world after it.
     Mine(Mining<'w>),
-    /// `validate WORLD CALLS BLOCK --fuel N [--workers 4] [--next NEXT]`: the verdict on the block, and the world after it.
+    /// `validate WORLD CALLS BLOCK --fuel N [--workers 4] [--next NEXT] [--json]`: the verdict on the block, and the world after it.
     Validate(Validation<'w>),
-    /// `call WORLD CONTRACT FUEL ENTRY ARG...`: what one call comes to that runs alone.
+    /// `call WORLD CONTRACT FUEL ENTRY ARG... [--json]`: what one call comes to that runs alone.
     Call(Calling<'w>),
     /// `debug WORLD CALLS CALL CMD... [--block BLOCK [--fuel N]]`: a call that runs alone, or in a block, turn by turn.
     Debug(Debugging<'w>),
@@ -72,16 +75,6 @@ fn is_stored(words: &[&str], options: &[(&str, &str)]) -> bool
     words.is_empty() && options.is_empty()
 }
 
-/// The size of a heap that a word spells, in decimal with no needless zero.
-fn size_of(alloc: Global, word: &str) -> Result<Option<u32>, AllocError>
-    ensures { IfOk result (λ found. MatchOption found ((n : ℕ) → 1024 ≤ n → n ≤ 16777216 → word.now ≢ decimal n) (λ n. IsSize word.now n)) }
-{
-    match number_within(alloc, word, HEAP.least, HEAP.most)? {
-        Some(size) => Ok(Some(size as u32)),
-        None => Ok(None),
-    }
-}
-
 /// Whether a word is none of these.
 pub(crate) fn is_apart(word: &str, others: &[&str]) -> bool
     ensures { IsTrue result ↔ IsApart word.now (texts others.now) }
@@ -92,86 +85,69 @@ pub(crate) fn is_apart(word: &str, others: &[&str]) -> bool
     }
 }
 
-/// Whether a word is this one.
-pub(crate) fn is_word(word: &str, name: &str) -> bool
-    ensures { IsTrue result ↔ (word.now ≡ name.now) }
-{
-    word == name
-}
-
-/// The heap that options ask for, if any; or None where they are no options of `check`.
-fn heap_of(alloc: Global, options: &[(&str, &str)]) -> Result<Option<Option<u32>>, AllocError>
-    ensures { IfOk result (λ found. MatchOption found ((heap : Option ℕ) → ¬ AsksHeap (choices options.now) heap) (AsksHeap (choices options.now))) }
-{
-    if options.is_empty() {
-        return Ok(Some(None));
-    }
-    if options.len() > 1 || !is_word(options[0].0, HEAP.word) {
-        return Ok(None);
-    }
-    match size_of(alloc, options[0].1)? {
-        Some(size) => Ok(Some(Some(size))),
-        None => Ok(None),
-    }
-}
-
-/// The module and the heap of `check`.
+/// The module and the heap of `check`, and whether it is told as JSON.
 fn check_of<'w>(
     alloc: Global,
     words: &[&'w str],
     options: &[(&str, &str)],
-) -> Result<Option<(&'w str, Option<u32>)>, AllocError>
-    ensures { IfOk result (λ found. MatchOption found ((target : List ℕ) (heap : Option ℕ) → ¬ AsksCheck (record { words = texts words.now; options = choices options.now }) target heap) (λ x. AsksCheck (record { words = texts words.now; options = choices options.now }) x.0.now x.1)) }
+) -> Result<Option<(&'w str, Option<u32>, bool)>, AllocError>
+    ensures { IfOk result (λ found. MatchOption found ((target : List ℕ) (heap : Option ℕ) (json : Bool) → ¬ AsksCheck (record { words = texts words.now; options = choices options.now }) target heap json) (λ x. AsksCheck (record { words = texts words.now; options = choices options.now }) x.0.now x.1 x.2)) }
 {
-    if words.len() != 2 || !is_word(words[0], "check") {
+    if words.len() != 2
+        || !is_word(words[0], "check")
+        || !has_only_two(options, HEAP.word, JSON_SWITCH)
+    {
         return Ok(None);
     }
-    match heap_of(alloc, options)? {
-        Some(heap) => Ok(Some((words[1], heap))),
-        None => Ok(None),
-    }
+    let Some(heap) = heap_in(alloc, options)? else {
+        return Ok(None);
+    };
+    let Some(json) = json_in(alloc, options)? else {
+        return Ok(None);
+    };
+    Ok(Some((words[1], heap, json)))
 }
 
-/// The text and the module of `asm`.
-fn asm_of<'w>(words: &[&'w str], options: &[(&str, &str)]) -> Option<(&'w str, &'w str)>
-    ensures { MatchOption result ((text target : List ℕ) → ¬ AsksAsm (record { words = texts words.now; options = choices options.now }) text target) (λ x. AsksAsm (record { words = texts words.now; options = choices options.now }) x.0.now x.1.now) }
+/// The text and the module of `asm`, and whether it is told as JSON.
+fn asm_of<'w>(words: &[&'w str], options: &[(&str, &str)]) -> Option<(&'w str, &'w str, bool)>
+    ensures { MatchOption result ((text target : List ℕ) (json : Bool) → ¬ AsksAsm (record { words = texts words.now; options = choices options.now }) text target json) (λ x. AsksAsm (record { words = texts words.now; options = choices options.now }) x.0.now x.1.now x.2) }
 {
-    if !options.is_empty() || words.len() != 3 || !is_word(words[0], "asm") {
+    if words.len() != 3 || !is_word(words[0], "asm") {
         return None;
     }
     if is_word(words[1], words[2]) {
         return None;
     }
-    Some((words[1], words[2]))
-}
-
-/// Whether options are the switch of this name, alone and without a value, or nothing; or None where they are something else.
-fn switch_alone(options: &[(&str, &str)], name: &str) -> Option<bool>
-    ensures { MatchOption result ((given : Bool) → ¬ AsksAlone name.now (choices options.now) given) (AsksAlone name.now (choices options.now)) }
-{
-    if options.is_empty() {
-        return Some(false);
-    }
-    if options.len() > 1 || !is_word(options[0].0, name) || !options[0].1.is_empty() {
-        return None;
-    }
-    Some(true)
-}
-
-/// The module and the text of `text`, and whether the module is left unchecked.
-fn text_of<'w>(words: &[&'w str], options: &[(&str, &str)]) -> Option<(&'w str, &'w str, bool)>
-    ensures { MatchOption result ((source target : List ℕ) (unchecked : Bool) → ¬ AsksText (record { words = texts words.now; options = choices options.now }) source target unchecked) (λ x. AsksText (record { words = texts words.now; options = choices options.now }) x.0.now x.1.now x.2) }
-{
-    if words.len() != 3 || !is_word(words[0], "text") {
-        return None;
-    }
-    if is_word(words[1], words[2]) {
-        return None;
-    }
-    let Some(unchecked) = switch_alone(options, UNCHECKED_SWITCH) else {
+    let Some(json) = switch_alone(options, JSON_SWITCH) else {
         return None;
     };
-    Some((words[1], words[2], unchecked))
+    Some((words[1], words[2], json))
+}
+
+/// The module and the text of `text`, whether the module is left unchecked, and whether it is told as JSON.
+fn text_of<'w>(
+    alloc: Global,
+    words: &[&'w str],
+    options: &[(&str, &str)],
+) -> Result<Option<(&'w str, &'w str, bool, bool)>, AllocError>
+    ensures { IfOk result (λ found. MatchOption found ((source target : List ℕ) (unchecked json : Bool) → ¬ AsksText (record { words = texts words.now; options = choices options.now }) source target unchecked json) (λ x. AsksText (record { words = texts words.now; options = choices options.now }) x.0.now x.1.now x.2 x.3)) }
+{
+    if words.len() != 3
+        || !is_word(words[0], "text")
+        || !has_only_two(options, UNCHECKED_SWITCH, JSON_SWITCH)
+    {
+        return Ok(None);
+    }
+    if is_word(words[1], words[2]) {
+        return Ok(None);
+    }
+    let Some(unchecked) = unchecked_in(alloc, options)? else {
+        return Ok(None);
+    };
+    let Some(json) = json_in(alloc, options)? else {
+        return Ok(None);
+    };
+    Ok(Some((words[1], words[2], unchecked, json)))
 }
 
 /// What `show` is asked for, whatever PICTURE is.
@@ -264,11 +240,15 @@ fn deploying_of<'l, 'w>(
     let Some(forced) = force_in(alloc, options)? else {
         return Ok(None);
     };
+    let Some(json) = json_in(alloc, options)? else {
+        return Ok(None);
+    };
     Ok(Some(Deploying {
         world,
         modules,
         onto,
         forced,
+        json,
     }))
 }
 
@@ -305,6 +285,9 @@ fn mining_of<'w>(
     let Some(boosted) = boosted_in(alloc, options)? else {
         return Ok(None);
     };
+    let Some(json) = json_in(alloc, options)? else {
+        return Ok(None);
+    };
     let mining = Mining {
         world: words[1],
         calls: words[2],
@@ -314,6 +297,7 @@ fn mining_of<'w>(
         workers,
         tries,
         boosted,
+        json,
     };
     if !keeps_inputs(mining) {
         return Ok(None);
@@ -356,6 +340,7 @@ fn counted_validation<'w>(
         workers,
         boosted: false,
         next: None,
+        json: false,
     }))
 }
 
@@ -376,9 +361,13 @@ fn spelled_validation<'w>(
     let Some(next) = next_in(alloc, options)? else {
         return Ok(None);
     };
+    let Some(json) = json_in(alloc, options)? else {
+        return Ok(None);
+    };
     Ok(Some(Validation {
         boosted,
         next,
+        json,
         ..counted
     }))
 }
@@ -433,14 +422,14 @@ pub fn command_of<'l, 'w>(
     if is_stored(words, options) {
         return Ok(Some(Command::Stored));
     }
-    if let Some((text, target)) = asm_of(words, options) {
-        return Ok(Some(Command::Asm(text, target)));
+    if let Some((text, target, json)) = asm_of(words, options) {
+        return Ok(Some(Command::Asm(text, target, json)));
     }
-    if let Some((source, target, unchecked)) = text_of(words, options) {
-        return Ok(Some(Command::Text(source, target, unchecked)));
+    if let Some((source, target, unchecked, json)) = text_of(alloc, words, options)? {
+        return Ok(Some(Command::Text(source, target, unchecked, json)));
     }
-    if let Some((target, heap)) = check_of(alloc, words, options)? {
-        return Ok(Some(Command::Check(target, heap)));
+    if let Some((target, heap, json)) = check_of(alloc, words, options)? {
+        return Ok(Some(Command::Check(target, heap, json)));
     }
     if let Some(task) = deploying_of(alloc, words, options)? {
         return Ok(Some(Command::Deploy(task)));

@@ -1,14 +1,13 @@
-//! The command `deploy WORLD MODULE... [--onto OLD] [--force]`, which writes over no file unasked.
+//! The command `deploy WORLD MODULE... [--onto OLD] [--force] [--json]`, which writes over no file unasked.
 
 ghost use Rattle.std.specs.Prelude.{◌≡◌, ◌≤◌, ◌↔◌, IsTrue, IfOk, IfErr, OnOk, MatchOption, length};
-ghost use Rattle.wblock_line.specs.Answers.{CountsFault, IsOfFile};
+ghost use Rattle.wblock_line.specs.Answers.{CountsFault, IsOfFile, upshot_of};
 ghost use Rattle.wblock_commands.specs.Deploying.{MayReplace, IsTaken, DeploysFree, IsNextToDeploy};
 
 use crate::Deploying;
-use crate::command::is_word;
 use std::alloc::Global;
 use wblock_io::Files;
-use wblock_line::{Answer, Fault};
+use wblock_line::{Answer, Fault, is_word};
 use wblock_modules::deploy_modules;
 
 /// Whether the line asks that the file of the world be written over: by `--force`, or since it is OLD, too.
@@ -30,7 +29,7 @@ pub(crate) fn deploy_apart<'l, 'w, F: Files>(
     task: Deploying<'l, 'w>,
 ) -> Result<Option<Answer<'w>>, Fault<'w>>
     requires { length task.modules.now ≤ 1024 }
-    ensures answers { IfOk result (λ found. IsTrue F.tells → MatchOption found (IsTaken task.entry (F.holds files.old)) (DeploysFree task.entry (F.holds files.old))) }
+    ensures answers { IfOk result (λ found. IsTrue F.tells → MatchOption found (IsTaken task.entry (F.holds files.old)) (λ a. DeploysFree task.entry (F.holds files.old) (upshot_of a))) }
     ensures unasked { IfOk result (λ found. MatchOption found (¬ MayReplace task.entry) (λ a. Unit {0})) }
     ensures kept { IsTrue F.tells → F.holds files.new ≡ F.holds files.old }
     ensures calm { OnOk result (F.failures files.new ≡ F.failures files.old) }
@@ -40,7 +39,7 @@ pub(crate) fn deploy_apart<'l, 'w, F: Files>(
     if !may_replace(task) && files.is_there(task.world) {
         return Ok(None);
     }
-    match deploy_modules(alloc, files, task.world, task.onto, task.modules) {
+    match deploy_modules(alloc, files, task.json, task.world, task.onto, task.modules) {
         Ok(answer) => Ok(Some(answer)),
         Err(fault) => Err(fault),
     }

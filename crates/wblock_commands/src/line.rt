@@ -8,19 +8,20 @@ ghost use Rattle.wblock_commands.specs.declared.command.Command.{Command as Aske
 
 use crate::command::{Command, command_of, watched_command};
 use crate::deploy::deploy_apart;
-use crate::usage::{tell_help, tell_version};
-use crate::{show_stored, usage_text};
+use crate::show_stored;
 use byte_sinks::{Sink, put_all};
 use pace::Pace;
 use std::alloc::{AllocError, Global};
 use std::sync::Wait;
 use std::thread::Threads;
-use wblock_blocks::{Noted, mine_block, validate_block};
-use wblock_debug::{call_world, debug_world};
+use wblock_blocks::{mine_block, validate_block};
+use wblock_call::call_world;
+use wblock_debug::debug_world;
 use wblock_io::Files;
-use wblock_line::{Answer, Fault, Status, carry_out, split_words, tell_fault};
+use wblock_line::{Answer, Fault, Noted, Status, carry_out, split_words, tell_fault};
 use wblock_modules::{assemble_file, check_module, write_text};
 use wblock_show::show_named;
+use wblock_usage::{tell_help, tell_version, usage_text};
 
 /// An answer of which nothing is to be said on standard error.
 fn unnoted<'a>(alloc: Global, answer: Answer<'a>) -> Noted<'a>
@@ -55,11 +56,11 @@ fn answer_of<'l, 'w, R: Threads + Wait + Sync, F: Files, P: Pace>(
         Command::Stored => show_stored(alloc)?,
         Command::Help(words) => tell_help(alloc, words)?,
         Command::Version => tell_version(alloc)?,
-        Command::Asm(text, target) => assemble_file(alloc, files, text, target)?,
-        Command::Text(source, target, unchecked) => {
-            write_text(alloc, files, source, target, unchecked)?
+        Command::Asm(text, target, json) => assemble_file(alloc, files, text, target, json)?,
+        Command::Text(source, target, unchecked, json) => {
+            write_text(alloc, files, source, target, unchecked, json)?
         }
-        Command::Check(target, heap) => check_module(alloc, files, target, heap)?,
+        Command::Check(target, heap, json) => check_module(alloc, files, target, heap, json)?,
         Command::Mine(task) => return Ok(Some(mine_block(rt, alloc, files, task, pace)?)),
         Command::Validate(task) => validate_block(rt, alloc, files, task, pace)?,
         Command::Show(task) => show_named(alloc, files, task)?,

@@ -2,16 +2,18 @@
 
 ghost use Rattle.std.specs.Borrow.{Bor};
 ghost use Rattle.std.specs.Prelude.{◌≡◌, ◌≢◌, ◌≤◌, ◌<◌, ◌+◌, ◌^◌, ◌↔◌, ℕ, Bool, List, [], Option, IfOk, IsTrue, MatchOption, decimal, length};
-ghost use Rattle.wblock_commands.specs.Options.{values_in, IsNumber, IsNumberOr, IsNameOrNone, IsForm, count_of, AsksFuel, AsksWorkers, AsksTries, AsksBoosted, AsksForce, IsSwitch, AsksNext, AsksOnto, AsksCalls, AsksForm, AsksSigned, HasOnlyDeploying, HasOnlyMining, HasOnlyValidation, HasOnlyShowing};
+ghost use Rattle.wblock_commands.specs.Options.{values_in, IsNumber, IsNumberOr, IsNameOrNone, IsForm, count_of, AsksFuel, AsksWorkers, AsksTries, AsksBoosted, AsksForce, AsksHeap, IsHeap, IsSwitch, AsksNext, AsksOnto, AsksCalls, AsksForm, AsksJson, AsksSigned, AsksUnchecked, HasOnlyDeploying, HasOnlyMining, HasOnlyTwo, HasOnlyValidation, HasOnlyShowing};
 ghost use Rattle.wblock_calls.specs.Words.{texts};
 ghost use Rattle.wblock_line.specs.Words.{choices};
 ghost use Rattle.wblock_show.specs.declared.file.Form.{Form as TheForm};
 
-use crate::declared::{CALLS, FUEL, NEXT, ONTO, SVG, TRIES, USUAL_TRIES, USUAL_WORKERS, WORKERS};
 use std::alloc::{AllocError, Global};
 use wblock_calls::number_of;
-use wblock_line::{BOOSTED_SWITCH, FORCE_SWITCH, JSON_SWITCH, SIGNED_SWITCH};
+use wblock_line::{BOOSTED_SWITCH, FORCE_SWITCH, JSON_SWITCH, SIGNED_SWITCH, UNCHECKED_SWITCH};
 use wblock_show::Form;
+use wblock_usage::declared::{
+    CALLS, FUEL, HEAP, NEXT, ONTO, SVG, TRIES, USUAL_TRIES, USUAL_WORKERS, WORKERS,
+};
 
 /// The values of the options of a name, in their order.
 fn values_of<'w>(
@@ -31,7 +33,7 @@ fn values_of<'w>(
 }
 
 /// The number that a word spells, in decimal with no needless zero, where it is in the range.
-pub(crate) fn number_within(
+fn number_within(
     alloc: Global,
     word: &str,
     least: u64,
@@ -94,6 +96,31 @@ pub(crate) fn fuel_in(alloc: Global, options: &[(&str, &str)]) -> Result<Option<
     number_in(alloc, values.as_slice(), FUEL.least, FUEL.most)
 }
 
+/// The bytes of the heap that the only value spells, if there is one; or None where it spells none that a heap may have.
+#[tactic(auto, using(crate::proofs::Heaps::no_heap))]
+fn heap_of(alloc: Global, values: &[&str]) -> Result<Option<Option<u32>>, AllocError>
+    ensures { IfOk result (λ found. MatchOption found ((heap : Option ℕ) → ¬ IsHeap (texts values.now) heap) (IsHeap (texts values.now))) }
+{
+    if values.is_empty() {
+        return Ok(Some(None));
+    }
+    match number_in(alloc, values, HEAP.least, HEAP.most)? {
+        Some(size) => Ok(Some(Some(size as u32))),
+        None => Ok(None),
+    }
+}
+
+/// The heap that options ask for, if any; or None where they ask for one otherwise than once and in its range.
+pub(crate) fn heap_in(
+    alloc: Global,
+    options: &[(&str, &str)],
+) -> Result<Option<Option<u32>>, AllocError>
+    ensures { IfOk result (λ found. MatchOption found ((heap : Option ℕ) → ¬ AsksHeap (choices options.now) heap) (AsksHeap (choices options.now))) }
+{
+    let values = values_of(alloc, options, HEAP.word)?;
+    heap_of(alloc, values.as_slice())
+}
+
 /// How many workers options ask for, 1 to 64, or 4 where they do not say; or None where they say something else.
 pub(crate) fn workers_in(alloc: Global, options: &[(&str, &str)]) -> Result<Option<u32>, AllocError>
     ensures { IfOk result (λ found. MatchOption found ((n : ℕ) → ¬ AsksWorkers (choices options.now) n) (AsksWorkers (choices options.now))) }
@@ -141,6 +168,14 @@ pub(crate) fn boosted_in(
     ensures { IfOk result (λ found. MatchOption found ((boosted : Bool) → ¬ AsksBoosted (choices options.now) boosted) (AsksBoosted (choices options.now))) }
 {
     let switches = values_of(alloc, options, BOOSTED_SWITCH)?;
+    Ok(switch_of(switches.as_slice()))
+}
+
+/// Whether options ask for JSON; or None where they ask for it otherwise than once and without a value.
+pub(crate) fn json_in(alloc: Global, options: &[(&str, &str)]) -> Result<Option<bool>, AllocError>
+    ensures { IfOk result (λ found. MatchOption found ((json : Bool) → ¬ AsksJson (choices options.now) json) (AsksJson (choices options.now))) }
+{
+    let switches = values_of(alloc, options, JSON_SWITCH)?;
     Ok(switch_of(switches.as_slice()))
 }
 
@@ -249,6 +284,17 @@ pub(crate) fn signed_in(alloc: Global, options: &[(&str, &str)]) -> Result<Optio
     Ok(switch_of(switches.as_slice()))
 }
 
+/// Whether options ask for the text of a module that need not be valid; or None where they ask for it otherwise than once and without a value.
+pub(crate) fn unchecked_in(
+    alloc: Global,
+    options: &[(&str, &str)],
+) -> Result<Option<bool>, AllocError>
+    ensures { IfOk result (λ found. MatchOption found ((unchecked : Bool) → ¬ AsksUnchecked (choices options.now) unchecked) (AsksUnchecked (choices options.now))) }
+{
+    let switches = values_of(alloc, options, UNCHECKED_SWITCH)?;
+    Ok(switch_of(switches.as_slice()))
+}
+
 /// How many options have this name.
 fn count_of(options: &[(&str, &str)], name: &str) -> usize
     ensures count { result ≡ count_of name.now (choices options.now) }
@@ -263,13 +309,23 @@ fn count_of(options: &[(&str, &str)], name: &str) -> usize
     count
 }
 
+/// Whether all options have one of these two names.
+pub(crate) fn has_only_two(options: &[(&str, &str)], first: &str, second: &str) -> bool
+    ensures { IsTrue result ↔ HasOnlyTwo first.now second.now (choices options.now) }
+{
+    let firsts = count_of(options, first);
+    let seconds = count_of(options, second);
+    options.len() == firsts + seconds
+}
+
 /// Whether all options are options of `deploy`.
 pub(crate) fn has_only_deploying(options: &[(&str, &str)]) -> bool
     ensures { IsTrue result ↔ HasOnlyDeploying (choices options.now) }
 {
     let onto = count_of(options, ONTO.word);
     let force = count_of(options, FORCE_SWITCH);
-    options.len() == onto + force
+    let json = count_of(options, JSON_SWITCH);
+    options.len() == onto + force + json
 }
 
 /// Whether all options are options of `mine`.
@@ -280,7 +336,8 @@ pub(crate) fn has_only_mining(options: &[(&str, &str)]) -> bool
     let workers = count_of(options, WORKERS.word);
     let boosted = count_of(options, BOOSTED_SWITCH);
     let tries = count_of(options, TRIES.word);
-    options.len() == fuel + workers + boosted + tries
+    let json = count_of(options, JSON_SWITCH);
+    options.len() == fuel + workers + boosted + tries + json
 }
 
 /// Whether all options are options of `validate`.
@@ -291,7 +348,8 @@ pub(crate) fn has_only_validation(options: &[(&str, &str)]) -> bool
     let workers = count_of(options, WORKERS.word);
     let boosted = count_of(options, BOOSTED_SWITCH);
     let next = count_of(options, NEXT.word);
-    options.len() == fuel + workers + boosted + next
+    let json = count_of(options, JSON_SWITCH);
+    options.len() == fuel + workers + boosted + next + json
 }
 
 /// Whether all are options of `show`.

@@ -1,3 +1,4 @@
 mod AtIndex
 mod Lines
+mod Named
 mod Places

@@ -2,7 +2,7 @@
 use Rattle.std.proofs.Common.{◌≡◌, ℕ, ◌+◌, ◌-◌, ◌<◌, ◌≤◌, List, map, length, get_or, slice_get, Some, option_map, sym, ap, ◌∙◌, arith}
 use Rattle.std.proofs.lemmas.Bool.{le-ltb}
 use Rattle.std.proofs.lemmas.Option.{slice_get-map, slice_get-get_or}
-use Rattle.spec_syntax.specs.Syntax.{Func, Module}
+use Rattle.spec_modules.specs.Syntax.{Func, Module}
 use Rattle.module_tree.specs.Readers.{imported_funcs, defined_func}
 
 -- the item of a list of views

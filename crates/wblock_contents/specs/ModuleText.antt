@@ -2,11 +2,12 @@
 use Rattle.std.specs.Prelude.{ℕ, List, [], ◌∷◌, ◌++◌, ◌==◌, if◌then◌else◌, Option, Some, None, codes, decimal, length, slice_get}
 use Rattle.std.specs.List.{flat_map}
 use Rattle.wtypes.specs.declared.ValType.{ValType}
-use Rattle.spec_syntax.specs.Syntax.{FuncType, Limits, GlobalType, ImportDesc, ImportFunc, ImportTable, ImportMemory, ImportGlobal, ExportDesc, ExportFunc, ExportTable, ExportMemory, ExportGlobal, Import, Export, Func, Global, Module}
-use Rattle.spec_syntax.specs.Shape.{size}
+use Rattle.spec_modules.specs.Syntax.{Name, FuncType, Limits, GlobalType, ImportDesc, ImportFunc, ImportTable, ImportMemory, ImportGlobal, ExportDesc, ExportFunc, ExportTable, ExportMemory, ExportGlobal, Import, Export, Func, Global, Module}
+use Rattle.spec_modules.specs.Shape.{size}
 use Rattle.spec_typing.specs.Modules.{type_at, func_type_indices, imported_globals}
 use Rattle.module_tree.specs.Readers.{imported_funcs}
 use Rattle.figures.specs.Names.{type_name}
+use Rattle.wblock_words.specs.Names.{Named, name_among}
 use Rattle.wblock_contents.specs.Names.{name_text}
 use Rattle.wblock_contents.specs.Lines.{numbered}
 
@@ -75,11 +76,16 @@ interface_text m = numbered (import_line m.types) 0 m.imports ++ numbered (expor
 
 -- ` locals L instructions N`
 abbrev pub amounts_text : ℕ → ℕ → List ℕ
-amounts_text locals instructions = codes " locals " ++ (decimal locals ++ (codes " instructions " ++ (decimal instructions ++ 10 ∷ [])))
+amounts_text locals instructions = codes " locals " ++ (decimal locals ++ (codes " instructions " ++ decimal instructions))
 
--- `function F TYPE locals L instructions N`, the instructions of all depths
-abbrev pub func_line : List FuncType → ℕ → Func → List ℕ
-func_line types n f = codes "function " ++ (decimal n ++ (func_type_text (type_at types f.type_index) ++ amounts_text (length f.locals) (size f.body)))
+-- ` name "NAME"`, where there is a name
+abbrev pub called_text : Option Name → List ℕ
+called_text None = []
+called_text (Some name) = codes " name " ++ name_text name
+
+-- `function F TYPE locals L instructions N`, the instructions of all depths, and the name that the module carries for it
+abbrev pub func_line : List FuncType → List Named → ℕ → Func → List ℕ
+func_line types names n f = codes "function " ++ (decimal n ++ (func_type_text (type_at types f.type_index) ++ (amounts_text (length f.locals) (size f.body) ++ (called_text (name_among names n) ++ 10 ∷ []))))
 
 -- a word and limits
 abbrev pub limits_line : List ℕ → Limits → List ℕ
@@ -99,9 +105,9 @@ abbrev pub segments_text : ℕ → ℕ → List ℕ
 segments_text elements datas = codes "elements " ++ decimal elements ++ codes "\ndata " ++ decimal datas ++ 10 ∷ []
 
 -- functions and globals by their numbers, imports counted first
-abbrev pub defined_text : Module → List ℕ
-defined_text m =
-    numbered (func_line m.types) (imported_funcs m.imports) m.funcs
+abbrev pub defined_text : List Named → Module → List ℕ
+defined_text names m =
+    numbered (func_line m.types names) (imported_funcs m.imports) m.funcs
     ++ flat_map (limits_line (codes "table")) m.tables
     ++ flat_map (limits_line (codes "memory")) m.memories
     ++ numbered global_line (length (imported_globals m)) m.globals
@@ -112,6 +118,6 @@ defined_text m =
 abbrev pub size_line : ℕ → List ℕ
 size_line size = codes "module " ++ decimal size ++ codes " bytes\n"
 
--- a module that so many bytes spell
-abbrev pub module_text : ℕ → Module → List ℕ
-module_text bytes m = size_line bytes ++ interface_text m ++ defined_text m
+-- a module that so many bytes spell, which carry these names
+abbrev pub module_text : ℕ → List Named → Module → List ℕ
+module_text bytes names m = size_line bytes ++ interface_text m ++ defined_text names m

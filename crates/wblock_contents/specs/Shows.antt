@@ -1,7 +1,7 @@
 -- What is shown of a file.
 use Rattle.std.specs.Prelude.{◌≡◌, ℕ, Bool, List, [], Option, Some, None, codes, string_bytes}
 use Rattle.wblock_io.specs.Holding.{Holding}
-use Rattle.wblock_words.specs.Sentences.{Begins}
+use Rattle.wblock_calls.specs.Sentences.{Begins}
 use Rattle.wblock_line.specs.declared.answer.Answer.{Answer}
 use Rattle.wblock_line.specs.declared.answer.Answer.TheVariants.{Done, Refused}
 use Rattle.wblock_line.specs.Refusals.{TellsNoModule}

@@ -8,7 +8,7 @@ use Rattle.spec_ledger.specs.declared.Kind.{Kind}
 use Rattle.spec_ledger.specs.declared.Kind.TheVariants.{Map, Counter}
 use Rattle.spec_ledger.specs.declared.Lock.{Lock}
 use Rattle.spec_ledger.specs.Cells.{Cells}
-use Rattle.spec_binary.specs.Shortest.{shortest}
+use Rattle.spec_modules.specs.Shortest.{shortest}
 use Rattle.spec_block.specs.Worlds.{Contract, World}
 use Rattle.spec_block.specs.Bytes.{world_bytes}
 use Rattle.figures.specs.Words.{kind_word}

@@ -2,22 +2,13 @@
 
 ghost use Rattle.std.specs.Prelude.{◌≡◌, IfOk, string_bytes};
 ghost use Rattle.std.specs.FinMap as finite;
-ghost use Rattle.world.specs.Views.{is_of};
 ghost use Rattle.wblock_contents.specs.WorldText.{cell_line, cells_text};
 
 use figures::word_of_kind;
 use std::alloc::{AllocError, Global};
 use storage::{Cells, Kind, Lock};
 use wblock_calls::NumberText;
-
-fn is_kind(a: Kind, b: Kind) -> bool
-    ensures { result ≡ is_of a b }
-{
-    matches!(
-        (a, b),
-        (Kind::Map, Kind::Map) | (Kind::Counter, Kind::Counter)
-    )
-}
+use world::is_kind;
 
 /// The cells with their numbers, in the order of locks.
 pub(crate) fn list_cells(alloc: Global, cells: &Cells) -> Result<Vec<(Lock, u64)>, AllocError>

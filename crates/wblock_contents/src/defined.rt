@@ -1,53 +1,115 @@
 //! What a module defines.
 
-ghost use Rattle.std.specs.Prelude.{◌≡◌, IfOk, Some, length, map, string_bytes};
+ghost use Rattle.std.specs.Prelude.{◌≡◌, ◌+◌, ◌<◌, ◌≤◌, ℕ, List, IfOk, Some, length, map, option_map, string_bytes};
+ghost use Rattle.wblock_words.specs.Names.{IsFrom, Named, Rises, name_among, names_in};
 ghost use Rattle.std.specs.List.{flat_map};
 ghost use Rattle.spec_typing.specs.Modules.{imported_globals};
 ghost use Rattle.module_tree.specs.ModuleView.{limits_view, func_view, global_view};
 ghost use Rattle.module_tree.specs.Modules.{module_view};
 ghost use Rattle.module_tree.specs.Readers.{imported_funcs, defined_func};
 ghost use Rattle.wblock_contents.specs.Lines.{numbered};
-ghost use Rattle.wblock_contents.specs.ModuleText.{amounts_text, func_line, limits_line, global_line, start_text, segments_text, defined_text};
+ghost use Rattle.wblock_contents.specs.ModuleText.{amounts_text, called_text, func_line, limits_line, global_line, start_text, segments_text, defined_text};
 
+use crate::names::quoted;
 use crate::types::{global_type_text_of, limits_text_of, type_text_at};
 use body_typing::spaces::Spaces;
 use figures::first_func;
 use module_tree::module::{Func, Global as Variable, Module};
 use std::alloc::{AllocError, Global};
+use wblock_words::FunctionName;
 use wtypes::Limits;
 
 /// ` locals L instructions N`.
 fn amounts_text_of(alloc: Global, locals: usize, instructions: u32) -> Result<String, AllocError>
     ensures { IfOk result (λ text. string_bytes text ≡ amounts_text locals instructions) }
 {
-    let text = format!(in alloc; " locals {locals} instructions {instructions}\n")?;
+    let text = format!(in alloc; " locals {locals} instructions {instructions}")?;
     Ok(text)
 }
 
-/// The line of the function of this number.
+/// ` name "NAME"`, where there is a name.
+fn called_text_of(alloc: Global, name: Option<&str>) -> Result<String, AllocError>
+    ensures { IfOk result (λ text. string_bytes text ≡ called_text (option_map (λ n. n.now) name.entry)) }
+{
+    match name {
+        None => Ok(String::new(alloc)),
+        Some(name) => {
+            let name = quoted(alloc, name)?;
+            let text = format!(in alloc; " name {name}")?;
+            Ok(text)
+        }
+    }
+}
+
+/// The name of the function of this number, which is the first of these where there is one.
+fn first_name<'b>(names: &[FunctionName<'b>], number: u32) -> Option<&'b str>
+    requires rises { Rises (names_in names.now) }
+    requires from { IsFrom number (names_in names.now) }
+    ensures { option_map (λ n. n.now) result ≡ name_among (names_in names.now) number }
+{
+    match names.split_first() {
+        Some((first, _rest)) => {
+            if first.number == number {
+                Some(first.name)
+            } else {
+                None
+            }
+        }
+        None => None,
+    }
+}
+
+/// The names of the functions from this one on.
+fn names_from<'n, 'b>(names: &'n [FunctionName<'b>], number: u32) -> &'n [FunctionName<'b>]
+    requires { Rises (names_in names.now) }
+    ensures rises { Rises (names_in result.now) }
+    ensures from { IsFrom number (names_in result.now) }
+    ensures same { (later : ℕ) → number ≤ later → name_among (names_in result.now) later ≡ name_among (names_in names.entry.now) later }
+{
+    let mut rest = names;
+    while let [first, more @ ..] = rest {
+        if first.number >= number {
+            return rest;
+        }
+        rest = more;
+    }
+    rest
+}
+
+/// The line of the function of this number and this name.
 fn func_line_of(
     alloc: Global,
     tree: &Module<Global>,
     number: u32,
+    name: Option<&str>,
     func: &Func<Global>,
 ) -> Result<String, AllocError>
     requires { defined_func (module_view tree.now) number ≡ Some (func_view func.now) }
-    ensures { IfOk result (λ line. string_bytes line ≡ func_line (module_view tree.now).types number (func_view func.now)) }
+    ensures { IfOk result (λ line. (names : List Named) → option_map (λ n. n.now) name.entry ≡ name_among names number → string_bytes line ≡ func_line (module_view tree.now).types names number (func_view func.now)) }
 {
     let func_type = type_text_at(alloc, &tree.types, func.type_index)?;
     let amounts = amounts_text_of(alloc, func.locals.len(), tree.size(number))?;
-    let line = format!(in alloc; "function {number}{func_type}{amounts}")?;
+    let called = called_text_of(alloc, name)?;
+    let line = format!(in alloc; "function {number}{func_type}{amounts}{called}\n")?;
     Ok(line)
 }
 
 /// A line for each defined function.
-fn func_lines_of(alloc: Global, tree: &Module<Global>) -> Result<String, AllocError>
-    ensures { IfOk result (λ text. string_bytes text ≡ numbered (func_line (module_view tree.now).types) (imported_funcs (module_view tree.now).imports) (module_view tree.now).funcs) }
+fn func_lines_of(
+    alloc: Global,
+    names: &[FunctionName<'_>],
+    tree: &Module<Global>,
+) -> Result<String, AllocError>
+    requires { Rises (names_in names.now) }
+    ensures { IfOk result (λ text. string_bytes text ≡ numbered (func_line (module_view tree.now).types (names_in names.now)) (imported_funcs (module_view tree.now).imports) (module_view tree.now).funcs) }
 {
     let mut text = String::new(alloc);
     let mut number = first_func(tree);
+    let mut left = names;
     for func in &tree.funcs {
-        let line = func_line_of(alloc, tree, number, func)?;
+        left = names_from(left, number);
+        let name = first_name(left, number);
+        let line = func_line_of(alloc, tree, number, name, func)?;
         text.push_str(line.as_str())?;
         number += 1;
     }
@@ -124,11 +186,16 @@ fn start_text_of(alloc: Global, start: Option<u32>) -> Result<String, AllocError
     }
 }
 
-/// What a module defines, line by line.
-pub(crate) fn defined_text_of(alloc: Global, tree: &Module<Global>) -> Result<String, AllocError>
-    ensures { IfOk result (λ text. string_bytes text ≡ defined_text (module_view tree.now)) }
+/// What a module defines, line by line, with these names of functions.
+pub(crate) fn defined_text_of(
+    alloc: Global,
+    names: &[FunctionName<'_>],
+    tree: &Module<Global>,
+) -> Result<String, AllocError>
+    requires { Rises (names_in names.now) }
+    ensures { IfOk result (λ text. string_bytes text ≡ defined_text (names_in names.now) (module_view tree.now)) }
 {
-    let funcs = func_lines_of(alloc, tree)?;
+    let funcs = func_lines_of(alloc, names, tree)?;
     let tables = limits_lines_of(alloc, "table", &tree.tables)?;
     let memories = limits_lines_of(alloc, "memory", &tree.memories)?;
     let globals = defined_globals_of(alloc, tree)?;

@@ -1,11 +1,11 @@
 //! Files by their first bytes.
 
 ghost use Rattle.std.specs.Prelude.{◌≡◌, ℕ, List, MatchOption, Some};
-ghost use Rattle.spec_syntax.specs.Syntax as syntax;
-ghost use Rattle.spec_binary.specs.Spells.{Spells};
+ghost use Rattle.spec_modules.specs.Syntax as syntax;
+ghost use Rattle.spec_modules.specs.Spells.{Spells};
 ghost use Rattle.spec_block.specs.Bytes.{SpellsWorld, SpellsBlock};
 ghost use Rattle.spec_block.specs.Worlds as worlds;
-ghost use Rattle.wblock_words.specs.Sentences.{Begins};
+ghost use Rattle.wblock_calls.specs.Sentences.{Begins};
 ghost use Rattle.wblock_contents.specs.Kinds.{magic};
 ghost use Rattle.wblock_contents.specs.declared.kind.Kind.{Kind as TheKind};
 

@@ -1,6 +1,7 @@
-mod Colons
-mod Lists
+mod FlatStates
 mod Options
 mod Printing
 mod Telling
-mod Untouched
+mod Fuels
+mod PrefixSums
+mod Prefixes

@@ -1,8 +1,9 @@
 -- What the words of a line ask to debug.
-use Rattle.std.specs.Prelude.{◌≡◌, ◌⊎◌, ℕ, ◌<◌, ◌^◌, List, [], ◌∷◌, Option, Some, None, codes, decimal, length}
+use Rattle.std.specs.Prelude.{◌≡◌, ◌⊎◌, ℕ, ◌<◌, ◌^◌, Bool, not, List, [], ◌∷◌, Option, Some, None, codes, decimal, filter, length}
 use Rattle.std.specs.Borrow.{Bor}
-use Rattle.wblock_line.specs.Words.{Line, Choice}
-use Rattle.wblock_debug.specs.Words.{Spell}
+use Rattle.std.specs.Str.{bytes_eq}
+use Rattle.wblock_line.specs.Words.{AsksAlone, Line, Choice}
+use Rattle.wblock_usage.specs.Words.{Spell}
 use Rattle.wblock_debug.specs.declared.asked.Debugging.{Debugging}
 
 -- the words are `debug`, these three and the words of commands, at least one
@@ -34,7 +35,15 @@ AsksBlock (only ∷ []) (Some block) None = only ≡ (codes "--block", block.now
 AsksBlock (first ∷ second ∷ []) (Some block) (Some fuel) = AreBlockWithFuelInAnyOrder first second block.now fuel
 AsksBlock _ _ _ = ⊥
 
--- `debug WORLD CALLS CALL CMD... [--block BLOCK [--fuel N]]`
+-- the option asks for JSON; it has another name
+abbrev pub is_json : Choice → Bool
+is_json option = bytes_eq option.0 (codes "--json")
+
+abbrev pub is_other : Choice → Bool
+is_other option = not (is_json option)
+
+-- `debug WORLD CALLS CALL CMD... [--block BLOCK [--fuel N]] [--json]`
 pub record AsksDebug (line : Line) (d : Debugging) : Type 0 where
   pub words : AsksWords line.words d
-  pub block : AsksBlock line.options d.block d.fuel
+  pub json : AsksAlone (codes "--json") (filter is_json line.options) d.json
+  pub block : AsksBlock (filter is_other line.options) d.block d.fuel

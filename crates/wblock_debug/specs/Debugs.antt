@@ -1,5 +1,5 @@
 -- What `debug` answers.
-use Rattle.std.specs.Prelude.{◌≡◌, ℕ, ◌⊎◌, Bool, List, [], Option, Some, None, slice_get, string_bytes, if◌then◌else◌}
+use Rattle.std.specs.Prelude.{◌≡◌, ℕ, ◌⊎◌, Bool, List, [], Option, Some, None, slice_get, if◌then◌else◌}
 use Rattle.std.specs.Borrow.{Bor}
 use Rattle.spec_ledger.specs.declared.Version.{Version}
 use Rattle.spec_ledger.specs.declared.Version.TheVariants.{Two}
@@ -12,11 +12,11 @@ use Rattle.wblock_debug.specs.Lines.{left_line}
 use Rattle.wblock_debug.specs.Prints.{IsDebugged}
 use Rattle.wblock_io.specs.Holding.{Holding}
 use Rattle.wblock_line.specs.declared.answer.Answer.{Answer}
-use Rattle.wblock_line.specs.declared.answer.Answer.TheVariants.{Done, Refused}
 use Rattle.wblock_line.specs.declared.perform.Status.TheVariants as status
 use Rattle.wblock_line.specs.Answers.{writes_of, text_of, status_of}
 use Rattle.wblock_line.specs.Inputs.{HoldsWorld, HoldsCalls, IsNextInput, TellsRefusal}
 use Rattle.wblock_line.specs.Rejections.{Rejects}
+use Rattle.wblock_line.specs.Told.{IsRefusalIn}
 use Rattle.wblock_debug.specs.declared.asked.Debugging.{Debugging}
 
 -- the text is printed and no file is written
@@ -25,28 +25,27 @@ pub record IsText (refused : Bool) (text : List ℕ) (a : Answer) : Type 0 where
   pub writes : writes_of a ≡ []
   pub text_is : text_of a ≡ text
 
--- the answer has the lines that the commands print of the call over these cells, by the rules of this version
+-- the answer has what the commands print of the call over these cells, by the rules of this version
 pub record TellsCall (version : Version) (world : World) (cells : Cells) (call : Call) (task : Debugging) (a : Answer) : Type 0 where
   pub refused : Bool
   pub text : List ℕ
-  pub debugged : IsDebugged (setting_of version world) cells call task.commands.items refused text
+  pub debugged : IsDebugged task.json (setting_of version world) cells call task.commands.items refused text
   pub told : IsText refused text a
 
--- the answer's line tells that the block has no call of this number
-abbrev pub TellsAbsent : ℕ → Answer → Type 0
-TellsAbsent number (Done writes text) = ⊥
-TellsAbsent number (Refused line why) = string_bytes line ≡ left_line number
+-- the answer tells that the block has no call of this number
+abbrev pub TellsAbsent : (json : Bool) → ℕ → Answer → Type 0
+TellsAbsent json number a = IsRefusalIn json (left_line number) a
 
 -- the answer tells the verdict on the bytes of the block, with the fuel that is given, else with the least that its calls need
 pub record IsRejected (world : World) (calls : List Call) (task : Debugging) (bytes : List ℕ) (a : Answer) : Type 0 where
   pub verdict : Verdict
   pub is : IsVerdictWith world calls task.fuel bytes verdict
-  pub tells : Rejects verdict a
+  pub tells : Rejects task.json verdict a
 
 -- the call does not stand in the block
 pub record IsLeftOut (world : World) (calls : List Call) (task : Debugging) (bytes : List ℕ) (a : Answer) : Type 0 where
   pub absent : IsAbsent world calls task.fuel bytes task.call
-  pub tells : TellsAbsent task.call a
+  pub tells : TellsAbsent task.json task.call a
 
 -- the call runs over the cells that it meets in the block, by the rules of the block's version
 pub record IsMet (world : World) (calls : List Call) (call : Call) (task : Debugging) (bytes : List ℕ) (a : Answer) : Type 0 where
@@ -81,9 +80,10 @@ pub record IsOfCall (holds : Holding) (task : Debugging) (a : Answer) : Type 0 w
   pub tells : TellsListed holds world calls call task task.block a
 
 -- the answer tells why the world or the calls are refused
-abbrev pub IsRefused : Holding → Debugging → Answer → Type 0
-IsRefused holds task (Done writes text) = ⊥
-IsRefused holds task (Refused line why) = TellsRefusal holds task.world.now task.calls.now (string_bytes line)
+pub record IsRefused (holds : Holding) (task : Debugging) (a : Answer) : Type 0 where
+  pub line : List ℕ
+  pub why : TellsRefusal holds task.world.now task.calls.now line
+  pub told : IsRefusalIn task.json line a
 
 abbrev pub Debugs : Holding → Debugging → Answer → Type 0
 Debugs holds task a = IsRefused holds task a ⊎ IsOfCall holds task a

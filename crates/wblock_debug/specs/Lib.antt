@@ -1,7 +1,6 @@
 pub mod Asks
-pub mod Calling
 pub mod Debugs
-pub mod Effects
 pub mod Lines
 pub mod Prints
-pub mod Words
+pub mod StatesJson
+pub mod Tells

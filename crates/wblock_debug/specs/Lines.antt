@@ -1,13 +1,18 @@
 -- The lines that commands print, each ended by a newline.
-use Rattle.std.specs.Prelude.{ℕ, zero, suc, List, [], ◌∷◌, ◌++◌, Option, Some, None, codes, decimal}
+use Rattle.std.specs.Prelude.{◌≡◌, ℕ, zero, suc, List, [], ◌∷◌, ◌++◌, Option, Some, None, codes, decimal}
 use Rattle.hex.specs.Hex.{encode_lower}
 use Rattle.wtypes.specs.declared.Value.{Value}
+use Rattle.std.specs.FinMap.{entries, get}
+use Rattle.spec_ledger.specs.declared.Lock.{Lock}
 use Rattle.spec_ledger.specs.declared.Outcome.{Outcome}
-use Rattle.debugger.specs.SessionView.{SessionView, ending_at, place_at, contract_at, level_at, asks_at}
+use Rattle.spec_ledger.specs.Modes.{touched}
+use Rattle.interp_state.specs.declared.frames.OpenFrame.{OpenFrame}
+use Rattle.debugger.specs.SessionView.{SessionView, ending_at, place_at, contract_at, level_at, asks_at, cells_at, frames_at}
 use Rattle.debugger.specs.declared.session.Refusal.{Refusal}
 use Rattle.debugger.specs.Commands.{code_of}
 use Rattle.wblock_calls.specs.Texts.{value_text}
 use Rattle.wblock_calls.specs.Receipts.{receipt_text}
+use Rattle.wblock_call.specs.Effects.{change_lines, number_text}
 
 -- ` in C level L`, where a level is inside the outer one
 abbrev pub level_text : (contract level : ℕ) → List ℕ
@@ -36,6 +41,26 @@ values_line name vs = name ++ values_text vs ++ 10 ∷ []
 -- `bytes HEX`
 abbrev pub bytes_line : List ℕ → List ℕ
 bytes_line bytes = codes "bytes " ++ encode_lower bytes ++ 10 ∷ []
+
+-- `at F O in C level L`, or `-` in the place of O at the end of the body
+abbrev pub frame_line : OpenFrame → List ℕ
+frame_line f = codes "at " ++ decimal f.func ++ codes " " ++ number_text f.ordinal ++ codes " in " ++ decimal f.contract ++ codes " level " ++ decimal f.level ++ 10 ∷ []
+
+abbrev pub frame_lines : List OpenFrame → List ℕ
+frame_lines [] = []
+frame_lines (f ∷ fs) = frame_line f ++ frame_lines fs
+
+-- `where`, and a line for each frame that is open, from the outer level on
+abbrev pub where_text : SessionView → List ℕ
+where_text s = codes "where\n" ++ frame_lines (frames_at s)
+
+-- `cells`, and a line for each cell that stands otherwise than at the start, in the order of locks
+abbrev pub cells_text : SessionView → List ℕ
+cells_text s = codes "cells\n" ++ change_lines s.cells (cells_at s) (entries (touched s.trace))
+
+-- a cell at a lock that the call has not asked for is as at the start
+abbrev pub OthersAreAsBefore : SessionView → Type 0
+OthersAreAsBefore s = (lock : Lock) → get (touched s.trace) lock ≡ None → get (cells_at s) lock ≡ get s.cells lock
 
 -- `ok`
 abbrev pub ok_line : List ℕ

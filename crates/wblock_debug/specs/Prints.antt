@@ -1,71 +1,96 @@
 -- What commands print of a call that runs alone over cells.
-use Rattle.std.specs.Prelude.{◌≡◌, ℕ, ◌+◌, ◌<◌, ◌≤◌, ◌⊎◌, Bool, true, false, List, [], ◌∷◌, ◌++◌, None, IsSome, codes, take, drop, length, string_bytes}
+use Rattle.std.specs.Prelude.{◌≡◌, ℕ, ◌+◌, ◌<◌, ◌≤◌, ◌⊎◌, Bool, true, false, List, [], ◌∷◌, ◌++◌, Option, Some, None, IsSome, option_map, option_and_then, codes, take, drop, length, string_bytes}
 use Rattle.spec_ledger.specs.Cells.{Cells}
 use Rattle.spec_execution.specs.Configuration.{Setting}
 use Rattle.spec_execution.specs.Run.{ContractCall, opening, Refused}
-use Rattle.debugger.specs.Breaks.{with_break, without_break, instr_there}
+use Rattle.spec_modules.specs.Syntax.{Instr}
+use Rattle.debugger.specs.declared.place.Place.{Place}
+use Rattle.debugger.specs.Breaks.{as_place, with_break, without_break, instr_there, exported_function}
 use Rattle.debugger.specs.SessionView.{SessionView, IsSessionView, stack_at, locals_at, globals_at, memory_at}
 use Rattle.debugger.specs.Commands.{IsOpened, HasStepped, HasGoneBack, HasContinued}
 use Rattle.debugger.specs.declared.session.Refusal.{Refusal}
 use Rattle.debugger.specs.declared.session.Refusal.TheVariants as refusal
-use Rattle.wblock_debug.specs.declared.command.Command.{Command}
-use Rattle.wblock_debug.specs.declared.command.Command.TheVariants.{Step, Back, Cont, Place, Break, Clear, Stack, Locals, Globals, Bytes}
-use Rattle.wblock_debug.specs.Lines.{state_line, values_line, bytes_line, ok_line, refusal_line, start_line}
+use Rattle.wblock_usage.specs.declared.spot.Spot.{Spot}
+use Rattle.wblock_usage.specs.declared.spot.Spot.TheVariants.{Own, Of, Exported}
+use Rattle.wblock_usage.specs.declared.debugging.Command.{Command}
+use Rattle.wblock_usage.specs.declared.debugging.Command.TheVariants.{Step, Back, Cont, Place as PlaceAsked, Break, Clear, Stack, Locals, Globals, Bytes, Cells as CellsShown, Where}
+use Rattle.wblock_debug.specs.Lines.{OthersAreAsBefore}
+use Rattle.wblock_debug.specs.Tells.{TellsBytes, TellsCells, TellsOk, TellsRefusal, TellsStart, TellsState, TellsValues, TellsWhere}
 use Rattle.wblock_debug.specs.declared.perform.Said.{Said}
 use Rattle.wblock_debug.specs.declared.printed.Printed.{Printed}
 use Rattle.wblock_debug.specs.declared.perform.Said.TheVariants as said
 
--- A command that is done leads from one state to another, and prints a line: what is read of the state that it comes to.
-abbrev pub Does : Command → SessionView → SessionView → List ℕ → Type 0
-Does (Step n) s t line = ((made : ℕ) × HasStepped s n made t) × (line ≡ state_line t)
-Does (Back n) s t line = HasGoneBack s n t × (line ≡ state_line t)
-Does Cont s t line = ((made : ℕ) × HasContinued s made t) × (line ≡ state_line t)
-Does Place s t line = (t ≡ s) × (line ≡ state_line t)
-Does (Break f o) s t line = IsSome (instr_there s.contract.deployed.tree (f, o)) × (t ≡ record s { breaks = with_break s.breaks (f, o) }) × (line ≡ ok_line)
-Does (Clear f o) s t line = IsSome (instr_there s.contract.deployed.tree (f, o)) × (t ≡ record s { breaks = without_break s.breaks (f, o) }) × (line ≡ ok_line)
-Does Stack s t line = (t ≡ s) × (line ≡ values_line (codes "stack") (stack_at t))
-Does Locals s t line = (t ≡ s) × (line ≡ values_line (codes "locals") (locals_at t))
-Does Globals s t line = (t ≡ s) × (line ≡ values_line (codes "globals") (globals_at t))
-Does (Bytes from n) s t line = (t ≡ s) × (from + n ≤ length (memory_at t)) × (line ≡ bytes_line (take n (drop from (memory_at t))))
+-- the place that a spot names: a function of the contract that is called, by its number or its name, or a function of another one
+abbrev pub place_named : SessionView → Spot → Option Place
+place_named s (Own f o) = Some (as_place s.call.contract f o)
+place_named s (Of c f o) = Some (as_place c f o)
+place_named s (Exported name o) = option_map (λ f. as_place s.call.contract f o) (exported_function s.contract.deployed.tree name.now)
+
+-- the instruction there
+abbrev pub instr_named : SessionView → Spot → Option Instr
+instr_named s spot = option_and_then (instr_there s.setting.contracts) (place_named s spot)
+
+abbrev pub with_break_at : List Place → Option Place → List Place
+with_break_at breaks None = breaks
+with_break_at breaks (Some p) = with_break breaks p
+
+abbrev pub without_break_at : List Place → Option Place → List Place
+without_break_at breaks None = breaks
+without_break_at breaks (Some p) = without_break breaks p
+
+-- A command that is done leads from one state to another, and tells what is read of the state that it comes to.
+abbrev pub Does : (json : Bool) → Command → SessionView → SessionView → List ℕ → Type 0
+Does json (Step n) s t line = ((made : ℕ) × HasStepped s n made t) × TellsState json t line
+Does json (Back n) s t line = HasGoneBack s n t × TellsState json t line
+Does json Cont s t line = ((made : ℕ) × HasContinued s made t) × TellsState json t line
+Does json PlaceAsked s t line = (t ≡ s) × TellsState json t line
+Does json (Break spot) s t line = IsSome (instr_named s spot) × (t ≡ record s { breaks = with_break_at s.breaks (place_named s spot) }) × TellsOk json line
+Does json (Clear spot) s t line = IsSome (instr_named s spot) × (t ≡ record s { breaks = without_break_at s.breaks (place_named s spot) }) × TellsOk json line
+Does json Stack s t line = (t ≡ s) × TellsValues json (codes "stack") (stack_at t) line
+Does json Locals s t line = (t ≡ s) × TellsValues json (codes "locals") (locals_at t) line
+Does json Globals s t line = (t ≡ s) × TellsValues json (codes "globals") (globals_at t) line
+Does json CellsShown s t line = (t ≡ s) × TellsCells json t line × OthersAreAsBefore t
+Does json Where s t line = (t ≡ s) × TellsWhere json t line
+Does json (Bytes from n) s t line = (t ≡ s) × (from + n ≤ length (memory_at t)) × TellsBytes json (take n (drop from (memory_at t))) line
 
 -- a command that is refused, and why
 abbrev pub Refuses : Command → SessionView → Refusal → Type 0
 Refuses (Back n) s refusal.BeforeStart = s.turns < n
-Refuses (Break f o) s refusal.NoSuchPlace = instr_there s.contract.deployed.tree (f, o) ≡ None
-Refuses (Clear f o) s refusal.NoSuchPlace = instr_there s.contract.deployed.tree (f, o) ≡ None
+Refuses (Break spot) s refusal.NoSuchPlace = instr_named s spot ≡ None
+Refuses (Clear spot) s refusal.NoSuchPlace = instr_named s spot ≡ None
 Refuses (Bytes from n) s refusal.OutOfRange = length (memory_at s) < from + n
 Refuses c s r = ⊥
 
 -- From a first state on, these commands were given one after another: they have come to this state and printed this text. A command that is refused
--- leaves the state as it is and prints its number.
-pub data IsPrinted (first : SessionView) : List Command → SessionView → (refused : Bool) → (text : List ℕ) → Type 0 where
-  nothing : IsPrinted first [] first false []
-  done : (cs : List Command) (s : SessionView) (refused : Bool) (text : List ℕ) (c : Command) (t : SessionView) (line : List ℕ) → IsPrinted first cs s refused text → Does c s t line → IsSessionView t → IsPrinted first (cs ++ c ∷ []) t refused (text ++ line)
-  refused : (cs : List Command) (s : SessionView) (refused : Bool) (text : List ℕ) (c : Command) (r : Refusal) → IsPrinted first cs s refused text → Refuses c s r → IsPrinted first (cs ++ c ∷ []) s true (text ++ refusal_line r)
+-- leaves the state as it is and tells its number.
+pub data IsPrinted (json : Bool) (first : SessionView) : List Command → SessionView → (refused : Bool) → (text : List ℕ) → Type 0 where
+  nothing : IsPrinted json first [] first false []
+  done : (cs : List Command) (s : SessionView) (refused : Bool) (text : List ℕ) (c : Command) (t : SessionView) (line : List ℕ) → IsPrinted json first cs s refused text → Does json c s t line → IsSessionView t → IsPrinted json first (cs ++ c ∷ []) t refused (text ++ line)
+  refused : (cs : List Command) (s : SessionView) (refused : Bool) (text : List ℕ) (c : Command) (r : Refusal) (line : List ℕ) → IsPrinted json first cs s refused text → Refuses c s r → TellsRefusal json r line → IsPrinted json first (cs ++ c ∷ []) s true (text ++ line)
 
 -- what one command does and says
-abbrev pub Performs : {A : Type 0} → Command → SessionView → SessionView → Said A → Type 0
-Performs c s t (said.Line line) = Does c s t (string_bytes line)
-Performs c s t (said.Refused r) = Refuses c s r × (t ≡ s)
+abbrev pub Performs : {A : Type 0} → (json : Bool) → Command → SessionView → SessionView → Said A → Type 0
+Performs json c s t (said.Line line) = Does json c s t (string_bytes line)
+Performs json c s t (said.Refused r) = Refuses c s r × (t ≡ s)
 
 -- one more command was given
-abbrev pub AddsCommand : {A : Type 0} → Command → SessionView → SessionView → Printed A → Printed A → Type 0
-AddsCommand c s t old new = (first : SessionView) (given : List Command) → IsPrinted first given s old.refused (string_bytes old.text) → IsPrinted first (given ++ c ∷ []) t new.refused (string_bytes new.text)
+abbrev pub AddsCommand : {A : Type 0} → (json : Bool) → Command → SessionView → SessionView → Printed A → Printed A → Type 0
+AddsCommand json c s t old new = (first : SessionView) (given : List Command) → IsPrinted json first given s old.refused (string_bytes old.text) → IsPrinted json first (given ++ c ∷ []) t new.refused (string_bytes new.text)
 
 -- the call does not start, for the cause of a number
-pub record IsNotStarted (setting : Setting) (call : ContractCall) (refused : Bool) (text : List ℕ) : Type 0 where
+pub record IsNotStarted (json : Bool) (setting : Setting) (call : ContractCall) (refused : Bool) (text : List ℕ) : Type 0 where
   pub code : ℕ
   pub cause : opening setting call ≡ Refused code
   pub is_refused : refused ≡ true
-  pub text_is : text ≡ start_line code
+  pub told : TellsStart json code text
 
 -- the commands are given to the call alone over the cells, from its first state on
-pub record IsShown (setting : Setting) (cells : Cells) (call : ContractCall) (commands : List Command) (refused : Bool) (text : List ℕ) : Type 0 where
+pub record IsShown (json : Bool) (setting : Setting) (cells : Cells) (call : ContractCall) (commands : List Command) (refused : Bool) (text : List ℕ) : Type 0 where
   pub first : SessionView
   pub opened : IsOpened setting call cells first
   pub is_first : IsSessionView first
   pub last : SessionView
-  pub printed : IsPrinted first commands last refused text
+  pub printed : IsPrinted json first commands last refused text
 
-abbrev pub IsDebugged : Setting → Cells → ContractCall → List Command → Bool → List ℕ → Type 0
-IsDebugged setting cells call commands any_refused text = IsNotStarted setting call any_refused text ⊎ IsShown setting cells call commands any_refused text
+abbrev pub IsDebugged : (json : Bool) → Setting → Cells → ContractCall → List Command → Bool → List ℕ → Type 0
+IsDebugged json setting cells call commands any_refused text = IsNotStarted json setting call any_refused text ⊎ IsShown json setting cells call commands any_refused text

@@ -1,22 +1,21 @@
-//! The command `debug WORLD CALLS CALL CMD... [--block BLOCK [--fuel N]]`: a call that runs alone over a world, or over the cells that it meets in a block, turn by
+//! The command `debug WORLD CALLS CALL CMD... [--block BLOCK [--fuel N]] [--json]`: a call that runs alone over a world, or over the cells that it meets in a block, turn by
 //! turn, and what is read of its states.
 
 ghost use Rattle.std.specs.Prelude.{◌≡◌, ◌≤◌, ◌<◌, ◌^◌, IsTrue, IfOk, IfErr, OnOk, MatchOption, Some, length, slice_get, string_bytes};
 ghost use Rattle.world.specs.Views.{world_view};
-ghost use Rattle.block_judge.specs.Judging.{told};
 ghost use Rattle.wblock_line.specs.Answers.{CountsFault, IsOfFile};
-ghost use Rattle.wblock_line.specs.Rejections.{Rejects};
+ghost use Rattle.wblock_debug.specs.Lines.{left_line};
 ghost use Rattle.wblock_debug.specs.Debugs.{IsText, TellsAbsent, TellsCall, TellsOfBlock, TellsListed, IsBlockName, IsNextRead, IsNotListed, Debugs};
 
-use crate::{Debugging, Printed, debug_call};
-use block_judge::{JudgeRefusal, Reason, met_by};
+use crate::{Debugging, Printed, debug_call, met_by};
+use block_judge::JudgeRefusal;
 use call::Call;
 use pace::Pace;
 use spec_ledger::Version;
 use std::alloc::{AllocError, Global};
 use storage::Cells;
 use wblock_io::Files;
-use wblock_line::{Answer, Fault, Inputs, read_file, read_inputs, reason_words, reject_line_of};
+use wblock_line::{Answer, Fault, Inputs, read_file, read_inputs, refuse, reject};
 use world::World;
 use wtypes::NoMemory;
 
@@ -49,28 +48,31 @@ fn debug_over<'a>(
         call,
         &task.commands,
         version,
+        task.json,
     )?;
     Ok(answer_of(alloc, printed))
 }
 
-/// The answer that the block has no call of this number.
-fn absent<'a>(alloc: Global, number: u64) -> Result<Answer<'a>, AllocError>
-    ensures { IfOk result (TellsAbsent number) }
+/// The line that the block has no call of this number, and a sentence.
+fn absent_lines(alloc: Global, number: u64) -> Result<(String, String), AllocError>
+    ensures { IfOk result (λ told. string_bytes told.0 ≡ left_line number) }
 {
     let line = format!(in alloc; "refused left {number}\n")?;
     let why = format!(in alloc;
         "block: call {number} does not stand in it; without --block the call runs alone over WORLD"
     )?;
-    Ok(Answer::Refused(line, why))
+    Ok((line, why))
 }
 
-/// The answer that a block of these bytes is rejected.
-fn rejected<'a>(alloc: Global, bytes: &[u8], reason: Reason) -> Result<Answer<'a>, AllocError>
-    ensures { IfOk result (Rejects (told reason)) }
+/// The answer that the block has no call of this number.
+fn absent<'a>(alloc: Global, json: bool, number: u64) -> Result<Answer<'a>, NoMemory>
+    ensures { IfOk result (TellsAbsent json number) }
 {
-    let line = reject_line_of(alloc, reason)?;
-    let why = reason_words(alloc, bytes, reason)?;
-    Ok(Answer::Refused(line, why))
+    let (line, why) = absent_lines(alloc, number)?;
+    match refuse(alloc, json, line, why) {
+        Ok(answer) => Ok(answer),
+        Err(_) => Err(NoMemory),
+    }
 }
 
 /// What the commands print of the call of the task's number over the cells that it meets in the block of these bytes.
@@ -97,8 +99,8 @@ fn debug_in_block<'a, P: Pace>(
         pace,
     ) {
         Ok(Some(met)) => Ok(debug_over(alloc, world, &met.cells, call, task, met.version)?),
-        Ok(None) => Ok(absent(alloc, task.call)?),
-        Err(JudgeRefusal::Rejected(reason)) => Ok(rejected(alloc, bytes, reason)?),
+        Ok(None) => Ok(absent(alloc, task.json, task.call)?),
+        Err(JudgeRefusal::Rejected(reason)) => Ok(reject(alloc, task.json, bytes, reason)?),
         Err(JudgeRefusal::NoMemory) => Err(NoMemory),
     }
 }
@@ -138,8 +140,8 @@ fn debug_listed<'a, F: Files, P: Pace>(
     }
 }
 
-/// What `debug` comes to: a line for each command, read off the states of the call alone over the world, or, where a block is named, over the cells that the
-/// calls before it leave in the block's order, by the rules of the block's version; or the line that says why the world, the calls or the block are
+/// What `debug` comes to: a line for each command, or as JSON a line with an object, read off the states of the call alone over the world, or, where a block is named, over the cells that the
+/// calls before it leave in the block's order, by the rules of the block's version; or why the world, the calls or the block are
 /// refused, that the block has no such call, or why the call does not start. None where there is no call of this number. No file is written. Before the
 /// calls of a block run, the pace is told for how much fuel at most.
 pub fn debug_world<'a, F: Files, P: Pace>(
@@ -156,7 +158,10 @@ pub fn debug_world<'a, F: Files, P: Pace>(
 {
     let (world, calls) = match read_inputs(alloc, files, task.world, task.calls)? {
         Inputs::Read(world, calls) => (world, calls),
-        Inputs::Refused(line, why) => return Ok(Some(Answer::Refused(line, why))),
+        Inputs::Refused(line, why) => {
+            let refused = refuse(alloc, task.json, line, why)?;
+            return Ok(Some(refused));
+        }
     };
     let list = calls.as_slice();
     let Some(call) = list.get(task.call as usize) else {

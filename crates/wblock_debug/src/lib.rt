@@ -1,22 +1,21 @@
-//! The commands on one call, `debug` and `call`: their words, the lines that they print, and the runs of them over a world's file.
+//! The command `debug`: its words, the lines that the debugger's commands print, and the run of them over a world's file.
 #![tactic(auto)]
 
 mod asked;
-mod called;
-mod command;
+mod cells;
 mod debug;
-mod effects;
+mod fuel;
 mod lines;
-mod numbers;
-mod one_call;
 mod perform;
+mod place;
+mod prefix;
 mod printed;
 mod run;
+mod states_json;
+mod told;
 
 pub use asked::{Debugging, debugging_of};
-pub use called::{Calling, calling_of};
-pub use command::{Command, command_of, commands_of};
 pub use debug::debug_world;
-pub use one_call::call_world;
+pub use prefix::{Met, met_by};
 pub use printed::Printed;
 pub use run::debug_call;

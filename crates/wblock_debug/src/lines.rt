@@ -1,14 +1,16 @@
 //! The lines that tell what a session shows.
 
 ghost use Rattle.std.specs.Prelude.{◌≡◌, Some, IfOk, string_bytes};
-ghost use Rattle.wblock_debug.specs.Lines.{level_text, state_line, values_text, values_line, bytes_line};
+ghost use Rattle.wblock_debug.specs.Lines.{level_text, state_line, values_text, values_line, bytes_line, frame_line, frame_lines, where_text};
 
+use debugger::OpenFrame;
 use debugger::session::Session;
 use spec_ledger::Receipt;
 use std::alloc::{AllocError, Allocator};
 use std::fmt;
+use wblock_call::NumberText;
 use wblock_calls::{ReceiptText, ValueText};
-use wtypes::Value;
+use wtypes::{NoMemory, Value};
 
 /// The contract and the level that a call is in, printed as ` in C level L`, or as nothing in the outer level.
 #[derive(Clone, Copy)]
@@ -82,6 +84,59 @@ pub(crate) fn values_line_of<A: Allocator + Copy>(
     let values = values_text_of(alloc, values)?;
     let line = format!(in alloc; "{name}{values}\n")?;
     Ok(line)
+}
+
+/// The same number, with 64 bits.
+fn widened(number: Option<u32>) -> Option<u64>
+    ensures { result ≡ number }
+{
+    match number {
+        None => None,
+        Some(number) => Some(number as u64),
+    }
+}
+
+/// `at F O in C level L`.
+fn frame_line_of<A: Allocator + Copy>(alloc: A, frame: OpenFrame) -> Result<String<A>, AllocError>
+    ensures { IfOk result (λ line. string_bytes line ≡ frame_line frame) }
+{
+    let OpenFrame {
+        contract,
+        level,
+        func,
+        ordinal,
+    } = frame;
+    let ordinal = NumberText(widened(ordinal));
+    let line = format!(in alloc; "at {func} {ordinal} in {contract} level {level}\n")?;
+    Ok(line)
+}
+
+/// A line for each frame.
+fn frame_lines_of<A: Allocator + Copy>(
+    alloc: A,
+    frames: &[OpenFrame],
+) -> Result<String<A>, AllocError>
+    ensures { IfOk result (λ text. string_bytes text ≡ frame_lines frames.now) }
+{
+    let mut text = String::new(alloc);
+    for frame in frames {
+        let line = frame_line_of(alloc, *frame)?;
+        text.push_str(line.as_str())?;
+    }
+    Ok(text)
+}
+
+/// `where`, and behind it a line for each frame that is open.
+pub(crate) fn where_text_of<A: Allocator + Copy>(
+    alloc: A,
+    session: &Session<'_, A>,
+) -> Result<String<A>, NoMemory>
+    ensures { IfOk result (λ text. string_bytes text ≡ where_text session.now) }
+{
+    let frames = session.frames()?;
+    let lines = frame_lines_of(alloc, &frames)?;
+    let text = format!(in alloc; "where\n{lines}")?;
+    Ok(text)
 }
 
 /// `bytes HEX`.

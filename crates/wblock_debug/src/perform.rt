@@ -1,127 +1,172 @@
 //! One command on a session.
 
-ghost use Rattle.std.specs.Prelude.{IfOk};
-ghost use Rattle.wblock_debug.specs.Prints.{Performs};
+ghost use Rattle.std.specs.Prelude.{◌≡◌, IfOk};
+ghost use Rattle.wblock_debug.specs.Prints.{Performs, place_named};
 
-use crate::Command;
-use crate::lines::{bytes_line_of, state_line_of, values_line_of};
+use crate::told::{bytes_told, cells_told, ok_told, state_told, values_told, where_told};
+use debugger::Place;
 use debugger::session::{Refusal, Session};
-use std::alloc::Allocator;
+use std::alloc::{Allocator, Global};
+use wblock_usage::Spot;
+use wblock_usage::debugging::Command;
 use wtypes::NoMemory;
 
 /// What a command prints.
 #[derive(Debug, Drop)]
 pub(crate) enum Said<A: Allocator> {
-    /// This line, with its newline.
+    /// This line or these lines, each with its newline, or a line with a JSON object.
     Line(String<A>),
     /// That it is refused.
     Refused(Refusal),
 }
 
 /// Makes so many turns.
-fn step<A: Allocator + Copy>(
-    alloc: A,
-    session: &mut Session<'_, A>,
+fn step(
+    alloc: Global,
+    json: bool,
+    session: &mut Session<'_, Global>,
     count: u64,
-) -> Result<Said<A>, NoMemory>
-    ensures { IfOk result (Performs (Command.Step count) session.old session.new) }
+) -> Result<Said<Global>, NoMemory>
+    ensures { IfOk result (Performs json (Command.Step count) session.old session.new) }
 {
     match session.step(count) {
-        Ok(_) => Ok(Said::Line(state_line_of(alloc, session)?)),
+        Ok(_) => Ok(Said::Line(state_told(alloc, json, session)?)),
         Err(_) => Err(NoMemory),
     }
 }
 
 /// Goes so many turns back.
-fn back<A: Allocator + Copy>(
-    alloc: A,
-    session: &mut Session<'_, A>,
+fn back(
+    alloc: Global,
+    json: bool,
+    session: &mut Session<'_, Global>,
     count: u64,
-) -> Result<Said<A>, NoMemory>
-    ensures { IfOk result (Performs (Command.Back count) session.old session.new) }
+) -> Result<Said<Global>, NoMemory>
+    ensures { IfOk result (Performs json (Command.Back count) session.old session.new) }
 {
     match session.back(count) {
-        Ok(_) => Ok(Said::Line(state_line_of(alloc, session)?)),
+        Ok(_) => Ok(Said::Line(state_told(alloc, json, session)?)),
         Err(Refusal::BeforeStart) => Ok(Said::Refused(Refusal::BeforeStart)),
         Err(_) => Err(NoMemory),
     }
 }
 
 /// Goes on to a break or to the end.
-fn cont<A: Allocator + Copy>(alloc: A, session: &mut Session<'_, A>) -> Result<Said<A>, NoMemory>
-    ensures { IfOk result (Performs Command.Cont session.old session.new) }
+fn cont(
+    alloc: Global,
+    json: bool,
+    session: &mut Session<'_, Global>,
+) -> Result<Said<Global>, NoMemory>
+    ensures { IfOk result (Performs json Command.Cont session.old session.new) }
 {
     match session.cont() {
-        Ok(_) => Ok(Said::Line(state_line_of(alloc, session)?)),
+        Ok(_) => Ok(Said::Line(state_told(alloc, json, session)?)),
         Err(_) => Err(NoMemory),
     }
 }
 
-/// Sets a break.
-fn break_at<A: Allocator + Copy>(
-    alloc: A,
-    session: &mut Session<'_, A>,
-    func: u32,
-    ordinal: u32,
-) -> Result<Said<A>, NoMemory>
-    ensures { IfOk result (Performs (Command.Break func ordinal) session.old session.new) }
+/// The place that a spot names. None where its name is that of no function that the contract that is called exports.
+fn place_named<A: Allocator + Copy>(session: &Session<'_, A>, spot: Spot<'_>) -> Option<Place>
+    ensures { result ≡ place_named session.now spot.entry }
 {
-    match session.break_at(func, ordinal) {
-        Ok(()) => Ok(Said::Line("ok\n".to_string(alloc)?)),
+    let called = session.called();
+    match spot {
+        Spot::Own(func, ordinal) => Some(Place {
+            contract: called,
+            func,
+            ordinal,
+        }),
+        Spot::Of(contract, func, ordinal) => Some(Place {
+            contract,
+            func,
+            ordinal,
+        }),
+        Spot::Exported(name, ordinal) => match session.exported_function(name) {
+            Some(func) => Some(Place {
+                contract: called,
+                func,
+                ordinal,
+            }),
+            None => None,
+        },
+    }
+}
+
+/// Sets a break.
+fn break_at(
+    alloc: Global,
+    json: bool,
+    session: &mut Session<'_, Global>,
+    spot: Spot<'_>,
+) -> Result<Said<Global>, NoMemory>
+    ensures { IfOk result (Performs json (Command.Break spot.entry) session.old session.new) }
+{
+    let Some(place) = place_named(session, spot) else {
+        return Ok(Said::Refused(Refusal::NoSuchPlace));
+    };
+    match session.break_at(place) {
+        Ok(()) => Ok(Said::Line(ok_told(alloc, json)?)),
         Err(Refusal::NoSuchPlace) => Ok(Said::Refused(Refusal::NoSuchPlace)),
         Err(_) => Err(NoMemory),
     }
 }
 
 /// Clears a break.
-fn clear<A: Allocator + Copy>(
-    alloc: A,
-    session: &mut Session<'_, A>,
-    func: u32,
-    ordinal: u32,
-) -> Result<Said<A>, NoMemory>
-    ensures { IfOk result (Performs (Command.Clear func ordinal) session.old session.new) }
+fn clear(
+    alloc: Global,
+    json: bool,
+    session: &mut Session<'_, Global>,
+    spot: Spot<'_>,
+) -> Result<Said<Global>, NoMemory>
+    ensures { IfOk result (Performs json (Command.Clear spot.entry) session.old session.new) }
 {
-    match session.clear(func, ordinal) {
-        Ok(()) => Ok(Said::Line("ok\n".to_string(alloc)?)),
+    let Some(place) = place_named(session, spot) else {
+        return Ok(Said::Refused(Refusal::NoSuchPlace));
+    };
+    match session.clear(place) {
+        Ok(()) => Ok(Said::Line(ok_told(alloc, json)?)),
         Err(_) => Ok(Said::Refused(Refusal::NoSuchPlace)),
     }
 }
 
 /// Shows bytes of memory.
-fn bytes<A: Allocator + Copy>(
-    alloc: A,
-    session: &Session<'_, A>,
+fn bytes(
+    alloc: Global,
+    json: bool,
+    session: &Session<'_, Global>,
     from: u64,
     count: u64,
-) -> Result<Said<A>, NoMemory>
-    ensures { IfOk result (Performs (Command.Bytes from count) session.now session.now) }
+) -> Result<Said<Global>, NoMemory>
+    ensures { IfOk result (Performs json (Command.Bytes from count) session.now session.now) }
 {
     match session.bytes(from, count) {
-        Ok(bytes) => Ok(Said::Line(bytes_line_of(alloc, bytes.as_slice())?)),
+        Ok(bytes) => Ok(Said::Line(bytes_told(alloc, json, bytes.as_slice())?)),
         Err(Refusal::OutOfRange) => Ok(Said::Refused(Refusal::OutOfRange)),
         Err(_) => Err(NoMemory),
     }
 }
 
 /// Does a command.
-pub(crate) fn perform<A: Allocator + Copy>(
-    alloc: A,
-    session: &mut Session<'_, A>,
-    command: Command,
-) -> Result<Said<A>, NoMemory>
-    ensures { IfOk result (Performs command session.old session.new) }
+pub(crate) fn perform(
+    alloc: Global,
+    json: bool,
+    session: &mut Session<'_, Global>,
+    command: Command<'_>,
+) -> Result<Said<Global>, NoMemory>
+    ensures { IfOk result (Performs json command.entry session.old session.new) }
 {
     match command {
-        Command::Step(count) => step(alloc, session, count),
-        Command::Back(count) => back(alloc, session, count),
-        Command::Cont => cont(alloc, session),
-        Command::Place => Ok(Said::Line(state_line_of(alloc, session)?)),
-        Command::Break(func, ordinal) => break_at(alloc, session, func, ordinal),
-        Command::Clear(func, ordinal) => clear(alloc, session, func, ordinal),
-        Command::Stack => Ok(Said::Line(values_line_of(alloc, "stack", session.stack())?)),
-        Command::Locals => Ok(Said::Line(values_line_of(alloc, "locals", session.locals())?)),
-        Command::Globals => Ok(Said::Line(values_line_of(alloc, "globals", session.globals())?)),
-        Command::Bytes(from, count) => bytes(alloc, session, from, count),
+        Command::Step(count) => step(alloc, json, session, count),
+        Command::Back(count) => back(alloc, json, session, count),
+        Command::Cont => cont(alloc, json, session),
+        Command::Place => Ok(Said::Line(state_told(alloc, json, session)?)),
+        Command::Break(spot) => break_at(alloc, json, session, spot),
+        Command::Clear(spot) => clear(alloc, json, session, spot),
+        Command::Stack => Ok(Said::Line(values_told(alloc, json, "stack", session.stack())?)),
+        Command::Locals => Ok(Said::Line(values_told(alloc, json, "locals", session.locals())?)),
+        Command::Globals => Ok(Said::Line(values_told(alloc, json, "globals", session.globals())?)),
+        Command::Cells => Ok(Said::Line(cells_told(alloc, json, session)?)),
+        Command::Where => Ok(Said::Line(where_told(alloc, json, session)?)),
+        Command::Bytes(from, count) => bytes(alloc, json, session, from, count),
     }
 }

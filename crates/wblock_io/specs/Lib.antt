@@ -1,2 +1,4 @@
+pub mod Coming
 pub mod Holding
+pub mod Lines
 pub mod Log

@@ -1,11 +1,13 @@
-//! Files by name and streams: in memory, and those of the machine.
+//! Files by name, lines and streams: in memory, and those of the machine.
 #![tactic(auto)]
 
 mod cause;
 mod disk;
 mod failing;
 mod files;
+mod lines;
 mod memory;
+mod memory_lines;
 mod stream;
 mod temporary;
 
@@ -13,6 +15,7 @@ pub use cause::Cause;
 pub use disk::Disk;
 pub use failing::FileFailures;
 pub use files::{Files, ReadFault, WriteFault, write_file};
+pub use lines::{LineFault, LineReader, Lines, MOST_LINE_BYTES, MemoryLines, NextLine};
 pub use memory::MemoryFiles;
 pub use stream::Stream;
 pub use temporary::{Claim, Owner};

@@ -1,11 +1,13 @@
 -- What is shown of a block has no float, and few arrays and objects within one another.
-use Rattle.std.proofs.Common.{ℕ, ◌==◌, Option, Some, None, List, [], ◌∷◌, Bool, true, false, if◌then◌else◌, codes, map, slice_get, arith}
+use Rattle.std.proofs.Common.{ℕ, ◌≤◌, ◌==◌, Option, Some, None, List, [], ◌∷◌, Bool, true, false, if◌then◌else◌, codes, map, slice_get, arith}
+use Rattle.std.specs.List.{AllByRecursion}
 use Rattle.spec_block.specs.Bytes.{version_code}
 use Rattle.wtypes.specs.declared.Value.{Value}
 use Rattle.wtypes.specs.declared.Value.TheVariants.{I32, I64}
 use Rattle.spec_ledger.specs.declared.Entry.{Entry}
 use Rattle.spec_ledger.specs.declared.Outcome.{Outcome}
 use Rattle.spec_ledger.specs.declared.Outcome.TheVariants as outcome
+use Rattle.spec_ledger.specs.declared.Receipt.{Receipt}
 use Rattle.spec_block.specs.Worlds.{Block, Call, Position}
 use Rattle.figures.specs.Words.{kind_word, mode_word}
 use Rattle.figures.specs.declared.figures.Chains.{Chains}
@@ -16,7 +18,7 @@ use Rattle.figures.specs.declared.outcomes.OutcomeKind.{OutcomeKind}
 use Rattle.figures.specs.declared.outcomes.OutcomeKind.TheVariants.{Returned, Trapped, OutOfFuel, Rejected}
 use Rattle.serde_json.specs.Data.{Data, null, string}
 use Rattle.wblock_json.specs.Json.{IsFlat, array_of, hex_data, large, numbered, object_of, small}
-use Rattle.wblock_json.specs.Blocks.{block_data, call_data, called_data, chain_data, code_data, count_data, entry_data, figures_data, kind_of, longest_data, outcome_word, position_data, returned_data, shared_data, speed_up_data, typed_data, value_data, wave_data, waves_data}
+use Rattle.wblock_json.specs.Blocks.{block_data, call_data, called_data, chain_data, code_data, count_data, entry_data, figures_data, kind_of, longest_data, outcome_word, position_data, receipt_members, returned_data, shared_data, speed_up_data, typed_data, value_data, wave_data, waves_data}
 use Rattle.wblock_json.proofs.Flat.{array_flat, deeper, map_flat, maybe_flat, null_flat, numbered_flat, object_flat, small_flat, string_flat}
 
 typed_flat : (type digits : List ℕ) → IsFlat 1 (typed_data type digits)
@@ -25,7 +27,7 @@ typed_flat type digits =
     let members : List (List ℕ × Data) = (codes "type", string type) ∷ (codes "value", string digits) ∷ [] in
     object_flat 0 1 members (omega arith) (string_flat 0 _, (string_flat 0 _, tt))
 
-value_flat : (v : Value) → IsFlat 1 (value_data v)
+pub value_flat : (v : Value) → IsFlat 1 (value_data v)
 value_flat (I32 n) = typed_flat _ _
 value_flat (I64 n) = typed_flat _ _
 
@@ -55,6 +57,9 @@ returned_flat (outcome.Trapped t) = null_flat 1
 returned_flat outcome.OutOfFuel = null_flat 1
 returned_flat (outcome.Rejected code) = null_flat 1
 
+pub receipt_flat : (n : ℕ) → 1 ≤ n → (r : Receipt) → AllByRecursion (λ f. IsFlat n f.1) (receipt_members r)
+receipt_flat n le r = (string_flat n _, (code_flat n _, (deeper 1 n _ le (returned_flat r.outcome), (string_flat n _, (small_flat n _, tt)))))
+
 entry_flat : (e : Entry) → IsFlat 1 (entry_data e)
 unfolding entry_data
 entry_flat e =
@@ -71,8 +76,8 @@ wave_flat n (Some c) position = small_flat n _
 position_flat : (calls : Option (List Call)) (chains : Option Chains) (n : ℕ) (p : Position) → IsFlat 4 (position_data calls chains n p)
 unfolding position_data
 position_flat calls chains n p =
-    let members : List (List ℕ × Data) = (codes "position", small n) ∷ (codes "call", small p.call) ∷ (codes "called", called_data calls p.call) ∷ (codes "outcome", string (outcome_word (kind_of p.receipt.outcome))) ∷ (codes "code", code_data (kind_of p.receipt.outcome)) ∷ (codes "value", returned_data p.receipt.outcome) ∷ (codes "fuel", large p.receipt.used) ∷ (codes "asks", small p.receipt.asks) ∷ (codes "wave", wave_data chains n) ∷ (codes "locks", array_of (map entry_data p.profile)) ∷ [] in
-    object_flat 3 4 members (omega arith) (small_flat 3 _, (small_flat 3 _, (called_flat calls p.call, (string_flat 3 _, (code_flat 3 _, (deeper 1 3 _ (omega arith) (returned_flat p.receipt.outcome), (string_flat 3 _, (small_flat 3 _, (wave_flat 3 chains n, (deeper 2 3 _ (omega arith) (locks_flat p.profile), tt))))))))))
+    let members : List (List ℕ × Data) = (codes "position", small n) ∷ (codes "call", small p.call) ∷ (codes "called", called_data calls p.call) ∷ (codes "wave", wave_data chains n) ∷ (codes "locks", array_of (map entry_data p.profile)) ∷ receipt_members p.receipt in
+    object_flat 3 4 members (omega arith) (small_flat 3 _, (small_flat 3 _, (called_flat calls p.call, (wave_flat 3 chains n, (deeper 2 3 _ (omega arith) (locks_flat p.profile), receipt_flat 3 (omega arith) p.receipt)))))
 
 positions_flat : (calls : Option (List Call)) (chains : Option Chains) (ps : List Position) → IsFlat 5 (array_of (numbered (position_data calls chains) 0 ps))
 positions_flat calls chains ps = array_flat 4 5 _ (omega arith) (numbered_flat 4 (position_data calls chains) 0 ps (position_flat calls chains))
@@ -123,8 +128,8 @@ figures_flat f =
     let members : List (List ℕ × Data) = (codes "total_fuel", large f.total_fuel) ∷ (codes "waves", waves_data f.chains) ∷ (codes "chain", chain_data f.chains) ∷ (codes "speed_up", speed_up_data f.chains f.total_fuel) ∷ (codes "shared", array_of (map shared_data f.hottest.items)) ∷ (codes "outcomes", array_of (map count_data f.outcomes.items)) ∷ [] in
     object_flat 2 3 members (omega arith) (string_flat 2 _, (waves_flat 2 f.chains, (deeper 1 2 _ (omega arith) (chain_flat f.chains), (speed_up_flat 2 f.chains f.total_fuel, (hottest_flat f.hottest.items, (outcomes_flat f.outcomes.items, tt))))))
 
-pub block_flat : (b : Block) (calls : Option (List Call)) (f : Figures) → IsFlat 127 (block_data b calls f)
+pub block_flat : (b : Block) (calls : Option (List Call)) (f : Figures) → IsFlat 6 (block_data b calls f)
 unfolding block_data
 block_flat b calls f =
     let members : List (List ℕ × Data) = (codes "kind", string (codes "block")) ∷ (codes "version", small (version_code b.version)) ∷ (codes "before", hex_data b.before) ∷ (codes "calls", hex_data b.calls) ∷ (codes "after", hex_data b.after) ∷ (codes "fuel", large b.fuel) ∷ (codes "positions", array_of (numbered (position_data calls f.chains) 0 b.positions)) ∷ (codes "figures", figures_data f) ∷ [] in
-    object_flat 5 127 members (omega arith) (string_flat 5 _, (small_flat 5 _, (string_flat 5 _, (string_flat 5 _, (string_flat 5 _, (string_flat 5 _, (positions_flat calls f.chains b.positions, (deeper 3 5 _ (omega arith) (figures_flat f), tt))))))))
+    object_flat 5 6 members (omega arith) (string_flat 5 _, (small_flat 5 _, (string_flat 5 _, (string_flat 5 _, (string_flat 5 _, (string_flat 5 _, (positions_flat calls f.chains b.positions, (deeper 3 5 _ (omega arith) (figures_flat f), tt))))))))

@@ -1,7 +1,9 @@
 mod AtIndex
-mod Flat
-mod FlatBlocks
+pub mod Flat
+pub mod FlatBlocks
 mod FlatModules
+mod FlatRefusals
+mod Fronts
 mod Listed
 mod Places
 mod Steps

@@ -1,5 +1,5 @@
 -- A block as JSON, with its figures.
-use Rattle.std.specs.Prelude.{◌==◌, ℕ, ◌*◌, ◌/◌, Option, Some, None, List, [], ◌∷◌, if◌then◌else◌, codes, map, slice_get, slice_index}
+use Rattle.std.specs.Prelude.{◌≡◌, ◌==◌, ℕ, ◌*◌, ◌/◌, Option, Some, None, List, [], ◌∷◌, if◌then◌else◌, codes, map, slice_get, slice_index}
 use Rattle.std.specs.Borrow.{Bor}
 use Rattle.std.specs.Fmt.{signed_decimal}
 use Rattle.serde_json.specs.Data.{Data, null, string}
@@ -8,6 +8,7 @@ use Rattle.wtypes.specs.declared.Value.TheVariants.{I32, I64}
 use Rattle.spec_ledger.specs.declared.Entry.{Entry}
 use Rattle.spec_ledger.specs.declared.Outcome.{Outcome}
 use Rattle.spec_ledger.specs.declared.Outcome.TheVariants as outcome
+use Rattle.spec_ledger.specs.declared.Receipt.{Receipt}
 use Rattle.spec_block.specs.Worlds.{Block, Call, Position}
 use Rattle.spec_block.specs.Bytes.{trap_code, version_code}
 use Rattle.figures.specs.Figures.{AreFigures}
@@ -78,6 +79,16 @@ returned_data (outcome.Trapped t) = null
 returned_data outcome.OutOfFuel = null
 returned_data (outcome.Rejected code) = null
 
+-- what is told of a receipt
+abbrev pub receipt_members : Receipt → List (List ℕ × Data)
+receipt_members r =
+    (codes "outcome", string (outcome_word (kind_of r.outcome)))
+    ∷ (codes "code", code_data (kind_of r.outcome))
+    ∷ (codes "value", returned_data r.outcome)
+    ∷ (codes "fuel", large r.used)
+    ∷ (codes "asks", small r.asks)
+    ∷ []
+
 -- ---- locks
 
 unfoldable pub entry_data : Entry → Data
@@ -102,14 +113,9 @@ position_data calls chains n p =
     ((codes "position", small n)
     ∷ (codes "call", small p.call)
     ∷ (codes "called", called_data calls p.call)
-    ∷ (codes "outcome", string (outcome_word (kind_of p.receipt.outcome)))
-    ∷ (codes "code", code_data (kind_of p.receipt.outcome))
-    ∷ (codes "value", returned_data p.receipt.outcome)
-    ∷ (codes "fuel", large p.receipt.used)
-    ∷ (codes "asks", small p.receipt.asks)
     ∷ (codes "wave", wave_data chains n)
     ∷ (codes "locks", array_of (map entry_data p.profile))
-    ∷ [])
+    ∷ receipt_members p.receipt)
 
 -- ---- figures
 
@@ -176,6 +182,12 @@ block_data b calls f =
     ∷ (codes "positions", array_of (numbered (position_data calls f.chains) 0 b.positions))
     ∷ (codes "figures", figures_data f)
     ∷ [])
+
+-- the value of a block with its figures
+pub record IsBlockData (b : Block) (calls : Option (List Call)) (d : Data) : Type 0 where
+  pub figures : Figures
+  pub are : AreFigures b figures
+  pub data_is : d ≡ block_data b calls figures
 
 -- the text of a block with its figures
 pub record IsBlockJson (b : Block) (calls : Option (List Call)) (text : List ℕ) : Type 0 where

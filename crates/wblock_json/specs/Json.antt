@@ -1,5 +1,5 @@
 -- Values of JSON, and their text.
-use Rattle.std.specs.Prelude.{◌≡◌, ℕ, ◌+◌, ◌≤◌, Option, Some, None, List, [], ◌∷◌, decimal, false}
+use Rattle.std.specs.Prelude.{◌≡◌, ℕ, ◌+◌, ◌≤◌, Option, Some, None, List, [], ◌∷◌, ◌++◌, decimal, false}
 use Rattle.hex.specs.Hex.{encode_lower}
 use Rattle.serde_json.specs.Data.{Data, null, string, number, unsigned, array, object, Members, no_members, put, depth}
 use Rattle.serde_json.specs.Read.{read}
@@ -49,3 +49,9 @@ pub record IsFlat (most : ℕ) (d : Data) : Type 0 where
 pub record IsJson (d : Data) (text : List ℕ) : Type 0 where
   pub text_is : text ≡ compact_text d
   pub reads : read text ≡ Some d
+
+-- a line of which this is true, and its newline
+pub record IsLineOf (Is : List ℕ → Type 0) (text : List ℕ) : Type 0 where
+  pub line : List ℕ
+  pub is : Is line
+  pub text_is : text ≡ line ++ 10 ∷ []

@@ -1,4 +1,5 @@
 pub mod Blocks
 pub mod Json
 pub mod Modules
+pub mod Refusals
 pub mod Worlds

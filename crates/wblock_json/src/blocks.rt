@@ -1,20 +1,20 @@
 //! A block as JSON, with its figures.
 
 ghost use Rattle.std.specs.Prelude.{◌≡◌, ◌≤◌, ◌<◌, ◌^◌, IfOk, length, map, slice_get, string_bytes};
-ghost use Rattle.serde_json.specs.View.{view};
+ghost use Rattle.serde_json.specs.View.{members_view, view};
 ghost use Rattle.figures.specs.Figures.{AreFigures};
-ghost use Rattle.wblock_json.specs.Json.{array_of, maybe, numbered};
-ghost use Rattle.wblock_json.specs.Blocks.{block_data, call_data, called_data, calls_of, chain_data, code_data, count_data, entry_data, figures_data, kind_of as kind_in, longest_data, outcome_word, position_data, ratio_data, returned_data, shared_data, speed_up_data, typed_data, value_data, wave_data, waves_data, IsBlockJson};
+ghost use Rattle.wblock_json.specs.Json.{array_of, maybe, numbered, with_members};
+ghost use Rattle.wblock_json.specs.Blocks.{block_data, call_data, called_data, calls_of, chain_data, code_data, count_data, entry_data, figures_data, kind_of as kind_in, longest_data, outcome_word, position_data, ratio_data, receipt_members, returned_data, shared_data, speed_up_data, typed_data, value_data, wave_data, waves_data, IsBlockData, IsBlockJson};
 
 use crate::values::{digest_of, large_of, null, text_of, with_member, word_of};
-use block::{Block, Position};
+use block::{Block, Position, number_of_version};
 use call::Call;
 use figures::{
-    Chains, Figures, OutcomeCount, OutcomeKind, SharedLock, figures_of, hundredth_of,
-    number_of_version, word_of_kind, word_of_mode,
+    Chains, Figures, OutcomeCount, OutcomeKind, SharedLock, figures_of, hundredth_of, word_of_kind,
+    word_of_mode,
 };
 use serde_json::{Map, Value as Json, json};
-use spec_ledger::{Entry, Outcome};
+use spec_ledger::{Entry, Outcome, Receipt};
 use std::alloc::{AllocError, Global};
 use wtypes::{NoMemory, Value};
 
@@ -37,11 +37,12 @@ fn value_of(alloc: Global, value: Value) -> Result<Json, AllocError>
     }
 }
 
-fn args_of(alloc: Global, args: &[Value]) -> Result<Json, AllocError>
-    ensures { IfOk result (λ v. view v ≡ array_of (map value_data args.now)) }
+/// Values with their types.
+pub fn values_of(alloc: Global, list: &[Value]) -> Result<Json, AllocError>
+    ensures { IfOk result (λ v. view v ≡ array_of (map value_data list.now)) }
 {
     let mut values = Vec::new(alloc);
-    for value in args {
+    for value in list {
         values.push(value_of(alloc, *value)?)?;
     }
     Ok(Json::from(values))
@@ -53,7 +54,7 @@ fn call_of(alloc: Global, call: &Call) -> Result<Json, AllocError>
 {
     let contract = call.contract();
     let entry = call.entry();
-    let args = args_of(alloc, call.args())?;
+    let args = values_of(alloc, call.args())?;
     json!(in alloc; {"contract": contract, "entry": entry, "args": args})
 }
 
@@ -123,6 +124,26 @@ fn returned_of(alloc: Global, outcome: Outcome) -> Result<Json, AllocError>
     }
 }
 
+/// Puts what is told of a receipt among the members of an object: the outcome, the number of the trap or of the rejection, the value that was returned,
+/// the fuel that was used, and how many levels were entered.
+pub fn with_receipt(
+    alloc: Global,
+    members: Map<String, Json>,
+    receipt: Receipt,
+) -> Result<Map<String, Json>, AllocError>
+    ensures { IfOk result (λ m. members_view m.entries ≡ with_members (receipt_members receipt) (members_view members.entries)) }
+{
+    let kind = kind_of(receipt.outcome);
+    let outcome = word_of_outcome(kind);
+    let members = with_member(alloc, members, "outcome", word_of(alloc, outcome)?)?;
+    let members = with_member(alloc, members, "code", code_of(kind))?;
+    let value = returned_of(alloc, receipt.outcome)?;
+    let members = with_member(alloc, members, "value", value)?;
+    let fuel = large_of(alloc, receipt.used as u128)?;
+    let members = with_member(alloc, members, "fuel", fuel)?;
+    with_member(alloc, members, "asks", Json::from(receipt.asks))
+}
+
 // ---- locks
 
 /// A lock of a position, with its mode and its turn.
@@ -177,23 +198,14 @@ fn position_of(
     ensures { IfOk result (λ v. view v ≡ position_data (calls_of calls.entry) chains.now number position.now) }
 {
     let call = position.call();
-    let receipt = position.receipt();
-    let kind = kind_of(receipt.outcome);
-    let outcome = word_of_outcome(kind);
     let members = Map::new(alloc);
     let members = with_member(alloc, members, "position", Json::from(number))?;
     let members = with_member(alloc, members, "call", Json::from(call))?;
     let members = with_member(alloc, members, "called", called_of(alloc, calls, call)?)?;
-    let members = with_member(alloc, members, "outcome", word_of(alloc, outcome)?)?;
-    let members = with_member(alloc, members, "code", code_of(kind))?;
-    let value = returned_of(alloc, receipt.outcome)?;
-    let members = with_member(alloc, members, "value", value)?;
-    let fuel = large_of(alloc, receipt.used as u128)?;
-    let members = with_member(alloc, members, "fuel", fuel)?;
-    let members = with_member(alloc, members, "asks", Json::from(receipt.asks))?;
     let members = with_member(alloc, members, "wave", wave_of(chains, number))?;
     let locks = locks_of(alloc, position.profile().entries())?;
     let members = with_member(alloc, members, "locks", locks)?;
+    let members = with_receipt(alloc, members, position.receipt())?;
     Ok(Json::from(members))
 }
 
@@ -369,8 +381,20 @@ fn bounded_figures(alloc: Global, block: &Block) -> Result<Figures, AllocError>
     }
 }
 
-/// A block as JSON: an object with its version, digests and fuel, its positions with their waves and locks, and its figures; with their calls, where
-/// these are known. The text has no spaces and no newline.
+/// A block as the value of its JSON: an object with its version, digests and fuel, its positions with their waves and locks, and its figures; with their
+/// calls, where these are known.
+///
+/// # Errors
+///
+/// Memory was refused.
+pub fn block_value(alloc: Global, block: &Block, calls: Option<&[Call]>) -> Result<Json, AllocError>
+    ensures { IfOk result (λ v. IsBlockData block.now (calls_of calls.entry) (view v)) }
+{
+    let figures = bounded_figures(alloc, block)?;
+    block_of(alloc, block, calls, &figures)
+}
+
+/// The text of [`block_value`]. It has no spaces and no newline.
 ///
 /// # Errors
 ///
@@ -382,7 +406,6 @@ pub fn block_json(
 ) -> Result<String, AllocError>
     ensures { IfOk result (λ text. IsBlockJson block.now (calls_of calls.entry) (string_bytes text)) }
 {
-    let figures = bounded_figures(alloc, block)?;
-    let value = block_of(alloc, block, calls, &figures)?;
+    let value = block_value(alloc, block, calls)?;
     text_of(alloc, &value)
 }

@@ -3,7 +3,7 @@
 ghost use Rattle.std.specs.Prelude.{◌≡◌, ◌+◌, ◌<◌, ◌^◌, IfOk, Some, length, map, vec_len};
 ghost use Rattle.serde_json.specs.View.{view};
 ghost use Rattle.body_typing.specs.Spaces.{AreSpaces};
-ghost use Rattle.spec_syntax.specs.Shape.{size};
+ghost use Rattle.spec_modules.specs.Shape.{size};
 ghost use Rattle.spec_typing.specs.Modules.{imported_globals};
 ghost use Rattle.module_tree.specs.ModuleView.{func_view, global_view, limits_view};
 ghost use Rattle.module_tree.specs.Modules.{module_view};

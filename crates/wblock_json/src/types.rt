@@ -63,7 +63,7 @@ pub(crate) fn type_at_index(
 }
 
 /// A number, where there is one.
-pub(crate) fn maybe_number(number: Option<u32>) -> Json
+pub fn maybe_number(number: Option<u32>) -> Json
     ensures { view result ≡ maybe small number }
 {
     match number {

@@ -7,7 +7,7 @@ ghost use Rattle.serde_json.specs.Data.{string};
 ghost use Rattle.serde_json.specs.View.{view};
 ghost use Rattle.wblock_calls.specs.Numbers.{number_text};
 ghost use Rattle.spec_block.specs.Bytes.{world_bytes};
-ghost use Rattle.world.specs.Views.{contract_view, is_of, world_view};
+ghost use Rattle.world.specs.Views.{contract_view, world_view};
 ghost use Rattle.wblock_json.specs.Json.{array_of, numbered};
 ghost use Rattle.wblock_json.specs.Worlds.{cell_data, cells_data, cells_of as cells_in, contract_data, world_data, IsWorldJson};
 
@@ -19,7 +19,7 @@ use serde_json::{Map, Value as Json, json, put};
 use std::alloc::{AllocError, Global};
 use storage::{Cells, Kind, Lock};
 use wblock_calls::NumberText;
-use world::{World, digest_world};
+use world::{World, digest_world, is_kind};
 use wtypes::NoMemory;
 
 /// The contract of this number.
@@ -63,15 +63,6 @@ fn cell_of(alloc: Global, signed: bool, lock: Lock, value: u64) -> Result<Json, 
     let key = number_of(alloc, signed, lock.key)?;
     let value = number_of(alloc, signed, value)?;
     json!(in alloc; {"contract": lock.contract, "key": key, "value": value})
-}
-
-fn is_kind(a: Kind, b: Kind) -> bool
-    ensures { result ≡ is_of a b }
-{
-    matches!(
-        (a, b),
-        (Kind::Map, Kind::Map) | (Kind::Counter, Kind::Counter)
-    )
 }
 
 /// The cells of a kind.

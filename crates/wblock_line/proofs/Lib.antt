@@ -1,3 +1,5 @@
 mod Beginning
+mod FlatObjects
+mod Leaving
 mod Saying
 mod Splitting

@@ -1,5 +1,5 @@
 -- What a command comes to, and what it is to write and to print.
-use Rattle.std.specs.Prelude.{◌≡◌, ℕ, ◌⊎◌, List, [], ◌∷◌, ◌++◌, codes, decimal, length, map, string_bytes, Bool, IsTrue}
+use Rattle.std.specs.Prelude.{◌≡◌, ℕ, ◌⊎◌, List, [], ◌∷◌, ◌++◌, codes, length, map, string_bytes, Bool, IsTrue}
 use Rattle.byte_sinks.specs.Putting.{IsCutShort, IsRaised}
 use Rattle.wblock_io.specs.Holding.{Holding, Changes, Failing, IsFailed}
 use Rattle.wblock_line.specs.declared.answer.Answer.{Answer}
@@ -9,6 +9,11 @@ use Rattle.wblock_line.specs.declared.answer.Fault.{Fault}
 use Rattle.wblock_line.specs.declared.answer.Fault.TheVariants.{File, NoMemory}
 use Rattle.wblock_line.specs.declared.perform.Status.{Status}
 use Rattle.wblock_line.specs.declared.perform.Status.TheVariants as status
+use Rattle.wblock_line.specs.Told.{IsCountText}
+
+-- a text ends with a newline
+abbrev pub EndsLine : List ℕ → Type 0
+EndsLine text = (front : List ℕ) × (text ≡ front ++ 10 ∷ [])
 
 -- a file's name and all of its bytes
 abbrev pub Written : Type 0
@@ -32,11 +37,36 @@ abbrev pub status_of : Answer → Status
 status_of (Done writes text) = status.Done
 status_of (Refused line why) = status.Refused
 
--- a file is to hold these bytes, and `WORD N bytes` is to be printed
-pub record IsCounted (word target bytes : List ℕ) (a : Answer) : Type 0 where
+-- ---- what a command comes to, without where it lies in memory
+
+-- the sentence that is said of a refusal
+abbrev pub why_of : Answer → List ℕ
+why_of (Done writes text) = []
+why_of (Refused line why) = string_bytes why
+
+pub record Upshot : Type 0 where
+  pub status : Status
+  pub writes : List Written
+  pub text : List ℕ
+  -- the sentence of a refusal
+  pub why : List ℕ
+
+abbrev pub upshot_of : Answer → Upshot
+upshot_of a = record { status = status_of a; writes = writes_of a; text = text_of a; why = why_of a }
+
+-- it is refused with a line of which this is true, and no file is to be written
+pub record IsRefusal (u : Upshot) (Is : List ℕ → Type 0) : Type 0 where
+  pub status_is : u.status ≡ status.Refused
+  pub writes : u.writes ≡ []
+  pub line : Is u.text
+
+-- ---- answers
+
+-- a file is to hold these bytes, and how many they are is to be printed behind this word, or as JSON
+pub record IsCounted (json : Bool) (word target bytes : List ℕ) (a : Answer) : Type 0 where
   pub status : status_of a ≡ status.Done
   pub writes : writes_of a ≡ (target, bytes) ∷ []
-  pub text : text_of a ≡ word ++ codes " " ++ decimal (length bytes) ++ codes " bytes" ++ 10 ∷ []
+  pub text : IsCountText json word (length bytes) (text_of a)
 
 -- the files were written, one after another, and every other file is as it was
 abbrev pub Wrote : List Written → Holding → Holding → Type 0

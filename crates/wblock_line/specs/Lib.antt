@@ -8,4 +8,7 @@ pub mod Worlds
 pub mod Inputs
 pub mod Rejections
 pub mod Lines
+pub mod Transitions
 pub mod ProgressOfWords
+pub mod Told
+pub mod Upshots

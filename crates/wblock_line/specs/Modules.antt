@@ -1,8 +1,8 @@
 -- What a module's bytes give, and why they give nothing.
 use Rattle.std.specs.Prelude.{ℕ, List}
 use Rattle.wtypes.specs.declared.HostCall.{HostCall}
-use Rattle.spec_syntax.specs.Syntax.{Module}
-use Rattle.spec_binary.specs.Spells.{Spells}
+use Rattle.spec_modules.specs.Syntax.{Module}
+use Rattle.spec_modules.specs.Spells.{Spells}
 use Rattle.spec_typing.specs.Modules.{ModuleTyped}
 use Rattle.spec_typing.specs.Linking.{IsLinked}
 use Rattle.link.specs.Refusals.{Says, PassedBefore}

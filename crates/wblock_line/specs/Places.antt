@@ -1,9 +1,10 @@
 -- What a sentence says of the place where a module breaks a rule.
 use Rattle.std.specs.Prelude.{◌≡◌, ◌⊎◌, ℕ, List, ◌++◌, Some, None}
-use Rattle.spec_syntax.specs.Syntax as syntax
-use Rattle.spec_binary.specs.Spells.{Spells}
+use Rattle.spec_modules.specs.Syntax as syntax
+use Rattle.spec_modules.specs.Spells.{Spells}
 use Rattle.typing_errors.specs.Sites.{TellsSite}
-use Rattle.wblock_words.specs.Sentences.{Begins, broken_place}
+use Rattle.wblock_calls.specs.Sentences.{Begins}
+use Rattle.wblock_words.specs.Sentences.{broken_place}
 use Rattle.wblock_line.specs.declared.refusals.ModuleRefusal.{ModuleRefusal}
 use Rattle.wblock_line.specs.declared.refusals.ModuleRefusal.TheVariants.{Malformed, Unsupported, TooLarge, Untyped, UnknownImport, ImportType, SegmentRange, TooManyPages, TableTooLarge}
 

@@ -1,5 +1,5 @@
 -- The words of a line, with its options taken out.
-use Rattle.std.specs.Prelude.{◌≡◌, ℕ, List, [], ◌∷◌, ◌++◌, Option, Some, None, Bool, ◌==◌, ◌||◌, nat_lt, codes, length, map, drop, option_map, slice_index, if◌then◌else◌}
+use Rattle.std.specs.Prelude.{◌≡◌, ℕ, List, [], ◌∷◌, ◌++◌, Option, Some, None, Bool, true, false, ◌==◌, ◌||◌, nat_lt, codes, length, map, drop, option_map, slice_index, if◌then◌else◌}
 use Rattle.std.specs.Borrow.{Bor}
 use Rattle.std.specs.Str.{bytes_eq}
 use Rattle.std.specs.List.{position_or_len, before_first, after_first}
@@ -38,6 +38,11 @@ has_value word = is_switch word || nat_lt (position_or_len is_equals word) (leng
 
 abbrev pub halves : List ℕ → Choice
 halves word = (before_first is_equals word, after_first is_equals word)
+
+-- the switch of this name alone and without a value, or nothing
+abbrev pub AsksAlone : (name : List ℕ) → List Choice → Bool → Type 0
+AsksAlone name options true = options ≡ (name, []) ∷ []
+AsksAlone name options false = options ≡ []
 
 -- words and options that stand before others
 abbrev pub with_front : List (List ℕ) → List Choice → Option Line → Option Line

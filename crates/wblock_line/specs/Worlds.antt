@@ -1,8 +1,8 @@
 -- Why bytes spell no world.
 use Rattle.std.specs.Prelude.{◌≡◌, ℕ, List, [], ◌∷◌, ◌++◌, codes, decimal}
 use Rattle.world.specs.Reading.{IsNoWorld, Refuses}
-use Rattle.world.specs.declared.read.ReadRefusal.{ReadRefusal}
-use Rattle.world.specs.declared.read.ReadRefusal.TheVariants as world
+use Rattle.records.specs.declared.refusal.ReadRefusal.{ReadRefusal}
+use Rattle.records.specs.declared.refusal.ReadRefusal.TheVariants as world
 
 -- `refused world N P`
 abbrev pub IsWorldLine : ReadRefusal → List ℕ → Type 0

@@ -1,10 +1,15 @@
 //! What a command comes to before anything is written or printed.
 
-ghost use Rattle.std.specs.Prelude.{◌≡◌, IsTrue, IfOk, IfErr, OnOk, Some};
+ghost use Rattle.std.specs.Prelude.{◌≡◌, false, IsTrue, IfOk, IfErr, OnOk, Some, string_bytes};
+ghost use Rattle.serde_json.specs.View.{view};
+ghost use Rattle.wblock_json.specs.Json.{IsJson, IsLineOf};
 ghost use Rattle.wblock_line.specs.Answers.{CountsFault, IsCounted, IsOfFile};
+ghost use Rattle.wblock_line.specs.Told.{bytes_data, IsCountText};
 
+use serde_json::{Value as Json, json};
 use std::alloc::{AllocError, Global};
 use wblock_io::{Cause, Files, ReadFault};
+use wblock_json::value_line;
 
 /// What a file is to hold.
 #[derive(Debug, Drop)]
@@ -25,24 +30,59 @@ pub enum Answer<'a> {
     Refused(String, String),
 }
 
-/// The answer that writes one file, and prints how many bytes it has: `WORD N bytes`.
+/// How many bytes were written, as JSON.
+#[tactic(auto, unfolding(crate::specs::Told::bytes_data))]
+fn bytes_of(alloc: Global, count: usize) -> Result<Json, AllocError>
+    ensures { IfOk result (λ v. view v ≡ bytes_data count) }
+{
+    json!(in alloc; {"bytes": count})
+}
+
+/// The line of the same.
+fn bytes_json(alloc: Global, count: usize) -> Result<String, AllocError>
+    ensures { IfOk result (λ text. IsLineOf (IsJson (bytes_data count)) (string_bytes text)) }
+{
+    let value = bytes_of(alloc, count)?;
+    value_line(alloc, &value)
+}
+
+/// `WORD N bytes`.
+fn count_line(alloc: Global, word: &str, count: usize) -> Result<String, AllocError>
+    ensures { IfOk result (λ text. IsCountText false word.now count (string_bytes text)) }
+{
+    let line = format!(in alloc; "{word} {count} bytes\n")?;
+    Ok(line)
+}
+
+/// The same, or as JSON.
+fn count_told(alloc: Global, json: bool, word: &str, count: usize) -> Result<String, AllocError>
+    ensures { IfOk result (λ text. IsCountText json word.now count (string_bytes text)) }
+{
+    if json {
+        bytes_json(alloc, count)
+    } else {
+        count_line(alloc, word, count)
+    }
+}
+
+/// The answer that writes one file, and tells how many bytes it has: `WORD N bytes`, or the same as JSON.
 ///
 /// # Errors
 ///
 /// The allocator refused memory.
 pub fn write_counted<'a>(
     alloc: Global,
+    json: bool,
     word: &str,
     name: &'a str,
     bytes: Vec<u8>,
 ) -> Result<Answer<'a>, AllocError>
-    ensures { IfOk result (IsCounted word.now name.entry.now bytes.items) }
+    ensures { IfOk result (IsCounted json word.now name.entry.now bytes.items) }
 {
-    let count = bytes.len();
-    let line = format!(in alloc; "{word} {count} bytes\n")?;
+    let text = count_told(alloc, json, word, bytes.len())?;
     let mut writes = Vec::new(alloc);
     writes.push(Write { name, bytes })?;
-    Ok(Answer::Done(writes, line))
+    Ok(Answer::Done(writes, text))
 }
 
 /// Why a command comes to nothing.

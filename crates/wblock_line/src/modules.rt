@@ -1,8 +1,8 @@
 //! Modules read from their bytes and judged.
 
 ghost use Rattle.std.specs.Prelude.{ℕ, List, IfOk, IfErr};
-ghost use Rattle.spec_syntax.specs.Syntax as syntax;
-ghost use Rattle.spec_binary.specs.Spells.{Spells};
+ghost use Rattle.spec_modules.specs.Syntax as syntax;
+ghost use Rattle.spec_modules.specs.Spells.{Spells};
 ghost use Rattle.spec_typing.specs.Modules.{ModuleTyped};
 ghost use Rattle.expr_reader.specs.Outcome.{Unless};
 ghost use Rattle.loader.specs.Refusals.{NoModule};

@@ -40,8 +40,11 @@ fn put_line<E: Sink>(err: &mut E, word: &str, name: &str) -> Result<(), SinkFaul
     Ok(())
 }
 
-/// Writes files, one after another, up to the first that fails, and answers its name and the cause.
-fn write_files<'a, F: Files>(files: &mut F, writes: &[Write<'a>]) -> Result<(), (&'a str, Cause)>
+/// Writes files, one after another, up to the first that fails, and answers its name and the cause. Each is written whole or left as it was.
+pub fn write_files<'a, F: Files>(
+    files: &mut F,
+    writes: &[Write<'a>],
+) -> Result<(), (&'a str, Cause)>
     ensures wrote { OnOk result (IsTrue F.tells → Wrote (map write_of writes.now) (F.holds files.old) (F.holds files.new)) }
     ensures calm { OnOk result (F.failures files.new ≡ F.failures files.old) }
     ensures counted { IfErr result (λ fault. IsFailed fault.0.now (F.failures files.old) (F.failures files.new)) }

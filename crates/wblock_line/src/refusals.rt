@@ -2,7 +2,8 @@
 
 ghost use Rattle.std.specs.Prelude.{◌≡◌, [], ◌∷◌, ◌++◌, Some, None, IfOk, string_bytes};
 ghost use Rattle.module_tree.specs.Modules.{module_view};
-ghost use Rattle.wblock_words.specs.Sentences.{Begins, broken_place};
+ghost use Rattle.wblock_calls.specs.Sentences.{Begins};
+ghost use Rattle.wblock_words.specs.Sentences.{broken_place};
 ghost use Rattle.wblock_line.specs.Places.{TellsPlace, TellsRefusal, TellsRule};
 ghost use Rattle.wblock_line.specs.Refusals.{refusal_text};
 
@@ -14,8 +15,9 @@ use module_tree::module::{Export, ExportDesc, Module};
 use std::alloc::{AllocError, Allocator, Global};
 use std::fmt;
 use typing_errors::{item_text, site_text};
+use wblock_calls::shown;
 use wblock_words::{
-    form_words, import_words, limit_words, room_words, rule_words, segment_words, shown,
+    FunctionName, form_words, import_words, limit_words, room_words, rule_words, segment_words,
 };
 
 /// Why a module's bytes give no contract, printed as `refused load N P`, `refused check RULE F O` or `refused deploy N I`.
@@ -99,9 +101,20 @@ fn export_of<A: Allocator>(module: &Module<A>, func: u32) -> Option<&str> {
     None
 }
 
-/// The sentence of a rule that a module breaks at this instruction of a function, which is named by its export.
+/// The name of the function of this number among these.
+fn name_among<'b>(names: &[FunctionName<'b>], func: u32) -> Option<&'b str> {
+    for named in names {
+        if named.number == func {
+            return Some(named.name);
+        }
+    }
+    None
+}
+
+/// The sentence of a rule that a module of these bytes breaks at this instruction of a function, which is named by its export, or else by the custom section `name`.
 fn body_words<A: Allocator>(
     alloc: Global,
+    bytes: &[u8],
     tree: &Module<A>,
     rule: Rule,
     func: u32,
@@ -109,7 +122,12 @@ fn body_words<A: Allocator>(
 ) -> Result<String, AllocError>
     ensures { IfOk result (λ s. TellsPlace (string_bytes s) (module_view tree.now) func ordinal) }
 {
-    let words = rule_words(alloc, rule, Some(func), export_of(tree, func), ordinal)?;
+    let names = wblock_words::names_of(alloc, bytes)?;
+    let name = match export_of(tree, func) {
+        Some(name) => Some(name),
+        None => name_among(&names, func),
+    };
+    let words = rule_words(alloc, rule, Some(func), name, ordinal)?;
     let site = site_text(alloc, tree, func, ordinal, rule)?;
     joined(alloc, &words, &site)
 }
@@ -164,7 +182,7 @@ fn untyped_words(
     ensures { IfOk result (λ s. TellsRule (string_bytes s) bytes.now func ordinal) }
 {
     match load(alloc, bytes) {
-        Ok(tree) => body_words(alloc, &tree, rule, func, ordinal),
+        Ok(tree) => body_words(alloc, bytes, &tree, rule, func, ordinal),
         Err(_) => rule_words(alloc, rule, Some(func), None, ordinal),
     }
 }

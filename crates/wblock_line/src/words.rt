@@ -1,7 +1,7 @@
 //! The words of a line, with its options taken out.
 
-ghost use Rattle.std.specs.Prelude.{◌≡◌, ◌≤◌, ◌<◌, IfOk, IfSome, Some, None, length, map, option_map, if◌then◌else◌};
-ghost use Rattle.wblock_line.specs.Words.{split, line_of, is_option, is_switch, has_value, halves, IsTaken};
+ghost use Rattle.std.specs.Prelude.{◌≡◌, ◌≤◌, ◌<◌, ◌↔◌, Bool, IfOk, IfSome, IsTrue, MatchOption, Some, None, length, map, option_map, if◌then◌else◌};
+ghost use Rattle.wblock_line.specs.Words.{choices, split, line_of, is_option, is_switch, has_value, halves, AsksAlone, IsTaken};
 
 use std::alloc::{AllocError, Global};
 
@@ -12,6 +12,13 @@ pub struct Line<'a> {
     pub words: Vec<&'a str>,
     /// The options, each with its name, hyphens included, and its value, which is empty for one that has none, in their order.
     pub options: Vec<(&'a str, &'a str)>,
+}
+
+/// Whether a word is this one.
+pub fn is_word(word: &str, name: &str) -> bool
+    ensures { IsTrue result ↔ (word.now ≡ name.now) }
+{
+    word == name
 }
 
 fn begins_option(word: &str) -> bool
@@ -35,7 +42,8 @@ pub const SIGNED_SWITCH: &str = "--signed";
 /// The switch that asks for the text of a module that need not be valid.
 pub const UNCHECKED_SWITCH: &str = "--unchecked";
 
-fn is_switch(word: &str) -> bool
+/// Whether the option of this name has no value.
+pub fn is_switch(word: &str) -> bool
     ensures { result ≡ is_switch word.now }
 {
     word == JSON_SWITCH
@@ -95,4 +103,17 @@ pub fn split_words<'a>(alloc: Global, words: &'a [&'a str]) -> Result<Option<Lin
         }
     }
     Ok(Some(line))
+}
+
+/// Whether options are the switch of this name, alone and without a value, or nothing; or None where they are something else.
+pub fn switch_alone(options: &[(&str, &str)], name: &str) -> Option<bool>
+    ensures { MatchOption result ((given : Bool) → ¬ AsksAlone name.now (choices options.now) given) (AsksAlone name.now (choices options.now)) }
+{
+    if options.is_empty() {
+        return Some(false);
+    }
+    if options.len() > 1 || !is_word(options[0].0, name) || !options[0].1.is_empty() {
+        return None;
+    }
+    Some(true)
 }

@@ -1,3 +1,5 @@
+mod Behind
+mod FlatObjects
 mod Onto
 mod Reading
 mod Told

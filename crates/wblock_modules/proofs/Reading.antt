@@ -5,7 +5,6 @@ use Rattle.std.proofs.lemmas.Option.{slice_get-map, slice_get-get_or}
 use Rattle.std.specs.Global.{Global}
 use Rattle.link.specs.declared.deployed.Deployed.{Deployed}
 use Rattle.spec_block.specs.Worlds.{Contract}
-use Rattle.wblock_calls.specs.Words.{texts}
 use Rattle.wblock_io.specs.Holding.{Holding}
 use Rattle.world.specs.Views.{contract_view}
 use Rattle.wblock_modules.specs.Deploys.{Holds, AreHeld, IsNextModule}
@@ -19,6 +18,9 @@ held_push holds (n ∷ names) (d ∷ cs) name c are is = (are.0, held_push holds
 
 abbrev pub none : Bor (List ℕ)
 none = record { ref_ptr = (0, 0); now = [] }
+
+abbrev texts : List (Bor (List ℕ)) → List (List ℕ)
+texts ws = map (λ w. w.now) ws
 
 pub held_next : (holds : Holding) (names : List (Bor (List ℕ))) (i : ℕ) (contracts new : List (Deployed Global)) (d : Deployed Global) → i < length names → AreHeld holds (take i (texts names)) (map contract_view contracts)
     → Holds holds (slice_index_or names i none).now (contract_view d) → new ≡ contracts ++ d ∷ [] → AreHeld holds (take (i + 1) (texts names)) (map contract_view new)

@@ -1,8 +1,8 @@
 -- What `asm` answers.
-use Rattle.std.specs.Prelude.{◌≡◌, ℕ, List, [], ◌∷◌, ◌++◌, Option, Some, None, codes, decimal, string_bytes}
-use Rattle.spec_syntax.specs.Syntax.{Module}
-use Rattle.spec_binary.specs.Shortest.{shortest}
-use Rattle.spec_binary.specs.Spells.{Spells}
+use Rattle.std.specs.Prelude.{◌≡◌, ℕ, Bool, List, [], ◌∷◌, ◌++◌, Option, Some, None, codes, decimal, string_bytes}
+use Rattle.spec_modules.specs.Syntax.{Module}
+use Rattle.spec_modules.specs.Shortest.{shortest}
+use Rattle.spec_modules.specs.Spells.{Spells}
 use Rattle.spec_text.specs.Names.{Names}
 use Rattle.lexer.specs.declared.LexRefusal.TheVariants as lexical
 use Rattle.module_tree.specs.LimitNumbers.{number_of}
@@ -13,6 +13,7 @@ use Rattle.wblock_io.specs.Holding.{Holding}
 use Rattle.wblock_line.specs.declared.answer.Answer.{Answer}
 use Rattle.wblock_line.specs.declared.answer.Answer.TheVariants.{Done, Refused}
 use Rattle.wblock_line.specs.Answers.{IsCounted}
+use Rattle.wblock_line.specs.Told.{IsInForm}
 
 -- ---- refusals
 
@@ -61,19 +62,21 @@ pub record IsSpelled (text bytes : List ℕ) : Type 0 where
   pub is_shortest : bytes ≡ shortest tree
 
 -- the file is to hold the module that the text names
-pub record TellsModule (text target : List ℕ) (a : Answer) : Type 0 where
+pub record TellsModule (json : Bool) (text target : List ℕ) (a : Answer) : Type 0 where
   pub bytes : List ℕ
   pub spelled : IsSpelled text bytes
-  pub is_done : IsCounted (codes "assembled") target bytes a
+  pub is_done : IsCounted json (codes "assembled") target bytes a
 
 -- ---- answers
 
-abbrev pub IsAnswer : List ℕ → List ℕ → Answer → Type 0
-IsAnswer text target (Done writes line) = TellsModule text target (Done writes line)
-IsAnswer text target (Refused line why) = TellsRefusal text (string_bytes line)
+abbrev pub IsAnswer : (json : Bool) → List ℕ → List ℕ → Answer → Type 0
+IsAnswer json text target (Done writes line) = TellsModule json text target (Done writes line)
+IsAnswer json text target (Refused line why) = TellsRefusal text (string_bytes line)
 
--- what is answered to the text in the file of a name
-pub record Assembles (holds : Holding) (text target : List ℕ) (answer : Answer) : Type 0 where
+-- what is answered to the text in the file of a name, a refusal in the form that is asked for
+pub record Assembles (json : Bool) (holds : Holding) (text target : List ℕ) (answer : Answer) : Type 0 where
   pub bytes : List ℕ
   pub held : holds text ≡ Some bytes
-  pub answers : IsAnswer bytes target answer
+  pub plain : Answer
+  pub answers : IsAnswer json bytes target plain
+  pub told : IsInForm json plain answer

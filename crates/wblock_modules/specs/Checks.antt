@@ -1,11 +1,14 @@
 -- What `check` answers.
-use Rattle.std.specs.Prelude.{◌≡◌, ℕ, List, [], ◌∷◌, ◌++◌, Some, codes, decimal, length, string_bytes}
-use Rattle.spec_syntax.specs.Syntax.{Module}
+use Rattle.std.specs.Prelude.{◌≡◌, ℕ, Bool, true, false, List, [], ◌∷◌, ◌++◌, Some, codes, decimal, length, string_bytes}
+use Rattle.spec_modules.specs.Syntax.{Module}
+use Rattle.wblock_json.specs.Json.{IsJson, IsLineOf}
 use Rattle.wblock_io.specs.Holding.{Holding}
 use Rattle.wblock_line.specs.declared.answer.Answer.{Answer}
 use Rattle.wblock_line.specs.declared.answer.Answer.TheVariants.{Done, Refused}
 use Rattle.wblock_line.specs.Modules.{IsValidOf}
 use Rattle.wblock_line.specs.Refusals.{TellsNoModule}
+use Rattle.wblock_line.specs.Told.{IsInForm}
+use Rattle.wblock_modules.specs.Objects.{valid_data}
 
 -- the bytes spell a valid module that defines so many functions
 pub record CountsFunctions (bytes : List ℕ) (count : ℕ) : Type 0 where
@@ -17,17 +20,24 @@ pub record CountsFunctions (bytes : List ℕ) (count : ℕ) : Type 0 where
 abbrev pub valid_line : ℕ → List ℕ
 valid_line count = codes "valid " ++ decimal count ++ codes " functions" ++ 10 ∷ []
 
-pub record TellsFunctions (bytes text : List ℕ) : Type 0 where
+-- this line, or the same as JSON
+abbrev pub IsValidText : (json : Bool) → (count : ℕ) → List ℕ → Type 0
+IsValidText false count text = text ≡ valid_line count
+IsValidText true count text = IsLineOf (IsJson (valid_data count)) text
+
+pub record TellsFunctions (json : Bool) (bytes text : List ℕ) : Type 0 where
   pub count : ℕ
   pub counted : CountsFunctions bytes count
-  pub text_is : text ≡ valid_line count
+  pub text_is : IsValidText json count text
 
-abbrev pub IsAnswer : List ℕ → Answer → Type 0
-IsAnswer bytes (Done writes text) = (writes.items ≡ []) × TellsFunctions bytes (string_bytes text)
-IsAnswer bytes (Refused line why) = TellsNoModule bytes (string_bytes line)
+abbrev pub IsAnswer : (json : Bool) → List ℕ → Answer → Type 0
+IsAnswer json bytes (Done writes text) = (writes.items ≡ []) × TellsFunctions json bytes (string_bytes text)
+IsAnswer json bytes (Refused line why) = TellsNoModule bytes (string_bytes line)
 
--- what is answered to the file of a name
-pub record Checks (holds : Holding) (target : List ℕ) (answer : Answer) : Type 0 where
+-- what is answered to the file of a name, a refusal in the form that is asked for
+pub record Checks (json : Bool) (holds : Holding) (target : List ℕ) (answer : Answer) : Type 0 where
   pub bytes : List ℕ
   pub held : holds target ≡ Some bytes
-  pub answers : IsAnswer bytes answer
+  pub plain : Answer
+  pub answers : IsAnswer json bytes plain
+  pub told : IsInForm json plain answer

@@ -1,24 +1,26 @@
 -- What `deploy` answers.
-use Rattle.std.specs.Prelude.{◌≡◌, ℕ, ◌+◌, ◌≤◌, ◌<◌, ◌⊎◌, List, [], ◌∷◌, ◌++◌, Option, Some, None, codes, decimal, length, map, take, slice_get, vec_len, string_bytes}
+use Rattle.std.specs.Prelude.{◌≡◌, ℕ, ◌+◌, ◌≤◌, ◌<◌, ◌⊎◌, Bool, true, false, List, [], ◌∷◌, ◌++◌, Option, Some, None, codes, decimal, length, map, take, slice_get, vec_len, string_bytes}
 use Rattle.std.specs.Borrow.{Bor}
 use Rattle.std.specs.FinMap.{empty}
 use Rattle.spec_block.specs.Worlds.{Contract, World}
 use Rattle.spec_block.specs.Bytes.{world_bytes}
+use Rattle.wblock_json.specs.Json.{IsJson, IsLineOf}
+use Rattle.wblock_json.specs.Refusals.{refusal_data}
 use Rattle.wblock_io.specs.Holding.{Holding}
-use Rattle.wblock_line.specs.declared.answer.Answer.{Answer}
-use Rattle.wblock_line.specs.declared.answer.Answer.TheVariants.{Done, Refused}
 use Rattle.wblock_line.specs.declared.inputs.WorldFile.{WorldFile}
 use Rattle.wblock_line.specs.declared.inputs.WorldFile.TheVariants as file
 use Rattle.wblock_line.specs.declared.perform.Status.TheVariants as status
 use Rattle.wblock_line.specs.declared.refusals.ModuleRefusal.{ModuleRefusal}
-use Rattle.wblock_line.specs.Answers.{writes_of, text_of, status_of}
+use Rattle.wblock_line.specs.Answers.{Upshot, IsRefusal}
 use Rattle.wblock_line.specs.Inputs.{Holds as HoldsBytes, HoldsWorld}
 use Rattle.wblock_line.specs.Modules.{IsContractOf, IsWhy}
 use Rattle.wblock_line.specs.Refusals.{refusal_text}
+use Rattle.wblock_line.specs.Upshots.{IsRefusalWith, IsToldIn}
 use Rattle.wblock_line.specs.Worlds.{TellsNoWorld}
 use Rattle.world.specs.Views.{contract_view, world_view}
 use Rattle.wblock_modules.specs.declared.deploy.Modules.{Modules}
 use Rattle.wblock_modules.specs.declared.deploy.Modules.TheVariants as modules
+use Rattle.wblock_modules.specs.Objects.{deployed_data}
 
 -- the file of a name holds the bytes of a module that is this contract
 pub record Holds (holds : Holding) (name : List ℕ) (c : Contract) : Type 0 where
@@ -64,22 +66,32 @@ TellsNoBase holds (Some old) line = HoldsBytes holds old.now (λ bytes. TellsNoW
 abbrev pub crowd_line : ℕ → List ℕ
 crowd_line count = codes "refused deploy 6 " ++ decimal count ++ 10 ∷ []
 
--- the contracts of OLD and so many more are above 1,024, and the line tells how many they are
-pub record TellsCrowd (holds : Holding) (onto : Option (Bor (List ℕ))) (count : ℕ) (line : List ℕ) : Type 0 where
-  pub base : World
-  pub is_base : IsBase holds onto base
+-- the contracts of the world and so many more are above 1,024, and the line tells how many they are
+pub record IsCrowd (base : World) (count : ℕ) (line : List ℕ) : Type 0 where
   pub many : 1024 < length base.contracts + count
   pub line_is : line ≡ crowd_line (length base.contracts + count)
 
+-- the world that is gone on from has no room for so many more
+pub record TellsCrowd (holds : Holding) (onto : Option (Bor (List ℕ))) (count : ℕ) (line : List ℕ) : Type 0 where
+  pub base : World
+  pub is_base : IsBase holds onto base
+  pub crowd : IsCrowd base count line
+
 -- OLD holds no world, or one without room for so many contracts more
-abbrev pub RefusesOld : Holding → Option (Bor (List ℕ)) → ℕ → Answer → Type 0
-RefusesOld holds onto count (Done writes text) = ⊥
-RefusesOld holds onto count (Refused line why) = TellsNoBase holds onto (string_bytes line) ⊎ TellsCrowd holds onto count (string_bytes line)
+pub record RefusesOld (json : Bool) (holds : Holding) (onto : Option (Bor (List ℕ))) (count : ℕ) (u : Upshot) : Type 0 where
+  pub line : List ℕ
+  pub why : TellsNoBase holds onto line ⊎ TellsCrowd holds onto count line
+  pub told : IsRefusalWith json line u
 
 -- ---- modules
 
 abbrev pub refusal_line : ModuleRefusal → ℕ → List ℕ
 refusal_line refusal number = refusal_text refusal ++ codes " module " ++ decimal number ++ 10 ∷ []
+
+-- this tells that the module of this number is refused: the line, or the object of it and of the sentence
+abbrev pub IsModuleLine : (json : Bool) → ModuleRefusal → (number : ℕ) → (told sentence : List ℕ) → Type 0
+IsModuleLine false refusal number told sentence = told ≡ refusal_line refusal number
+IsModuleLine true refusal number told sentence = IsLineOf (IsJson (refusal_data (Some number) (refusal_text refusal ++ 10 ∷ []) sentence)) told
 
 -- the file of this name is read once those before it hold contracts
 pub record IsNextModule (holds : Holding) (names : List (List ℕ)) (name : List ℕ) : Type 0 where
@@ -88,8 +100,8 @@ pub record IsNextModule (holds : Holding) (names : List (List ℕ)) (name : List
   pub held_before : AreHeld holds (take number names) before
   pub there : slice_get names number ≡ Some name
 
--- the line says why the first of the files that hold no contract holds none, and its number
-pub record TellsRefusal (holds : Holding) (names : List (List ℕ)) (line : List ℕ) : Type 0 where
+-- this tells why the first of the files that hold no contract holds none, and its number
+pub record TellsRefusal (json : Bool) (holds : Holding) (names : List (List ℕ)) (told sentence : List ℕ) : Type 0 where
   pub number : ℕ
   pub before : List Contract
   pub held_before : AreHeld holds (take number names) before
@@ -99,40 +111,44 @@ pub record TellsRefusal (holds : Holding) (names : List (List ℕ)) (line : List
   pub held : holds name ≡ Some bytes
   pub refusal : ModuleRefusal
   pub why : IsWhy bytes refusal
-  pub line_is : line ≡ refusal_line refusal number
+  pub line_is : IsModuleLine json refusal number told sentence
 
 -- ` onto M`, M the number of OLD's contracts, where OLD is named
 abbrev pub onto_text : Option (Bor (List ℕ)) → ℕ → List ℕ
 onto_text None count = []
 onto_text (Some old) count = codes " onto " ++ decimal count
 
--- a file is to hold these bytes, and `deployed N contracts` is to be printed, and this behind it
-pub record IsDone (world bytes : List ℕ) (count : ℕ) (behind : List ℕ) (a : Answer) : Type 0 where
-  pub status : status_of a ≡ status.Done
-  pub writes : writes_of a ≡ (world, bytes) ∷ []
-  pub text : text_of a ≡ codes "deployed " ++ decimal count ++ codes " contracts" ++ behind ++ 10 ∷ []
+-- `deployed N contracts`, and ` onto M` behind it; or the same as JSON
+abbrev pub IsDeployedText : (json : Bool) → (count : ℕ) → Option (Bor (List ℕ)) → (before : ℕ) → List ℕ → Type 0
+IsDeployedText false count onto before text = text ≡ codes "deployed " ++ decimal count ++ codes " contracts" ++ onto_text onto before ++ 10 ∷ []
+IsDeployedText true count onto before text = IsLineOf (IsJson (deployed_data count onto before)) text
+
+-- a file is to hold these bytes, and it is to be told that so many contracts were deployed behind so many of OLD
+pub record IsDone (json : Bool) (world bytes : List ℕ) (count : ℕ) (onto : Option (Bor (List ℕ))) (before : ℕ) (u : Upshot) : Type 0 where
+  pub status_is : u.status ≡ status.Done
+  pub writes : u.writes ≡ (world, bytes) ∷ []
+  pub text : IsDeployedText json count onto before u.text
 
 -- the bytes are those of the world with the contracts that the files hold behind its own
-pub record TellsWorld (holds : Holding) (world : List ℕ) (onto : Option (Bor (List ℕ))) (base : World) (names : List (List ℕ)) (a : Answer) : Type 0 where
+pub record TellsWorld (json : Bool) (holds : Holding) (world : List ℕ) (onto : Option (Bor (List ℕ))) (base : World) (names : List (List ℕ)) (u : Upshot) : Type 0 where
   pub contracts : List Contract
   pub held : AreHeld holds names contracts
-  pub is : IsDone world (world_bytes (extended base contracts)) (length names) (onto_text onto (length base.contracts)) a
+  pub is : IsDone json world (world_bytes (extended base contracts)) (length names) onto (length base.contracts) u
 
 -- what comes of the modules, behind the contracts of this world
-abbrev pub Extends : Holding → List ℕ → Option (Bor (List ℕ)) → World → List (List ℕ) → Answer → Type 0
-Extends holds world onto base names (Done writes text) = TellsWorld holds world onto base names (Done writes text)
-Extends holds world onto base names (Refused line why) = TellsRefusal holds names (string_bytes line)
+abbrev pub Extends : (json : Bool) → Holding → List ℕ → Option (Bor (List ℕ)) → World → List (List ℕ) → Upshot → Type 0
+Extends json holds world onto base names u = TellsWorld json holds world onto base names u ⊎ IsRefusal u (λ told. TellsRefusal json holds names told u.why)
 
 -- ---- answers
 
 -- the world that is gone on from has room for the modules
-pub record DeploysOnto (holds : Holding) (world : List ℕ) (onto : Option (Bor (List ℕ))) (names : List (List ℕ)) (a : Answer) : Type 0 where
+pub record DeploysOnto (json : Bool) (holds : Holding) (world : List ℕ) (onto : Option (Bor (List ℕ))) (names : List (List ℕ)) (u : Upshot) : Type 0 where
   pub base : World
   pub room : HasRoom holds onto (length names) base
-  pub extends : Extends holds world onto base names a
+  pub extends : Extends json holds world onto base names u
 
-abbrev pub Deploys : Holding → List ℕ → Option (Bor (List ℕ)) → List (List ℕ) → Answer → Type 0
-Deploys holds world onto names a = RefusesOld holds onto (length names) a ⊎ DeploysOnto holds world onto names a
+abbrev pub Deploys : (json : Bool) → Holding → List ℕ → Option (Bor (List ℕ)) → List (List ℕ) → Upshot → Type 0
+Deploys json holds world onto names u = RefusesOld json holds onto (length names) u ⊎ DeploysOnto json holds world onto names u
 
 -- ---- files that are read
 
@@ -156,19 +172,35 @@ abbrev pub GivesBase : Holding → Option (Bor (List ℕ)) → WorldFile → Typ
 GivesBase holds onto (file.Read w) = IsBase holds onto (world_view w)
 GivesBase holds onto (file.Refused line why) = TellsNoBase holds onto (string_bytes line)
 
--- the answer's line tells that the contracts are so many
-abbrev pub TellsCount : ℕ → Answer → Type 0
-TellsCount count (Done writes text) = ⊥
-TellsCount count (Refused line why) = string_bytes line ≡ crowd_line count
+-- it is told that the contracts are so many
+abbrev pub TellsCount : (json : Bool) → ℕ → Modules → Type 0
+TellsCount json count (modules.Linked contracts) = ⊥
+TellsCount json count (modules.Refused told why) = IsToldIn json (crowd_line count) (string_bytes why) (string_bytes told)
+
+-- the contracts of the world and so many more are above 1,024, and it is told how many they are
+pub record TellsTooMany (json : Bool) (base : World) (count : ℕ) (told sentence : List ℕ) : Type 0 where
+  pub line : List ℕ
+  pub crowd : IsCrowd base count line
+  pub told_is : IsToldIn json line sentence told
+
+-- what is read of modules behind the contracts of a world: there are too many; or one gives no contract; or these are their contracts
+abbrev pub IsReadBehind : (json : Bool) → Holding → World → List (List ℕ) → Modules → Type 0
+IsReadBehind json holds base names (modules.Linked contracts) = (length base.contracts + length names ≤ 1024) × AreHeld holds names (map contract_view contracts.items)
+IsReadBehind json holds base names (modules.Refused told why) = TellsTooMany json base (length names) (string_bytes told) (string_bytes why) ⊎ ((length base.contracts + length names ≤ 1024) × TellsRefusal json holds names (string_bytes told) (string_bytes why))
+
+-- the contracts that were read fit behind those of the world
+abbrev pub FitsBehind : World → Modules → Type 0
+FitsBehind base (modules.Linked contracts) = length base.contracts + vec_len contracts ≤ 1024
+FitsBehind base (modules.Refused line why) = Unit {0}
 
 abbrev pub HasCount : ℕ → Modules → Type 0
 HasCount count (modules.Linked contracts) = vec_len contracts ≡ count
 HasCount count (modules.Refused line why) = Unit {0}
 
-abbrev pub IsRead : Holding → List (List ℕ) → Modules → Type 0
-IsRead holds names (modules.Linked contracts) = AreHeld holds names (map contract_view contracts.items)
-IsRead holds names (modules.Refused line why) = TellsRefusal holds names (string_bytes line)
+abbrev pub IsRead : (json : Bool) → Holding → List (List ℕ) → Modules → Type 0
+IsRead json holds names (modules.Linked contracts) = AreHeld holds names (map contract_view contracts.items)
+IsRead json holds names (modules.Refused line why) = TellsRefusal json holds names (string_bytes line) (string_bytes why)
 
-abbrev pub IsRefusalLine : ModuleRefusal → ℕ → Modules → Type 0
-IsRefusalLine refusal number (modules.Linked contracts) = ⊥
-IsRefusalLine refusal number (modules.Refused line why) = string_bytes line ≡ refusal_line refusal number
+abbrev pub IsRefusalLine : (json : Bool) → ModuleRefusal → ℕ → Modules → Type 0
+IsRefusalLine json refusal number (modules.Linked contracts) = ⊥
+IsRefusalLine json refusal number (modules.Refused line why) = IsModuleLine json refusal number (string_bytes line) (string_bytes why)

@@ -1,7 +1,7 @@
 -- What `text` answers.
 use Rattle.std.specs.Prelude.{◌≡◌, ℕ, ◌⊎◌, Bool, true, false, List, [], ◌∷◌, ◌++◌, Some, codes, decimal, string_bytes}
-use Rattle.spec_syntax.specs.Syntax.{Module}
-use Rattle.spec_binary.specs.Spells.{Spells}
+use Rattle.spec_modules.specs.Syntax.{Module}
+use Rattle.spec_modules.specs.Spells.{Spells}
 use Rattle.spec_text.specs.Names.{Names}
 use Rattle.spec_typing.specs.Modules.{ModuleTyped}
 use Rattle.loader.specs.Refusals.{NoModule}
@@ -10,6 +10,7 @@ use Rattle.wblock_line.specs.declared.answer.Answer.{Answer}
 use Rattle.wblock_line.specs.declared.answer.Answer.TheVariants.{Done, Refused}
 use Rattle.wblock_line.specs.Answers.{IsCounted}
 use Rattle.wblock_line.specs.Refusals.{TellsNoModule}
+use Rattle.wblock_line.specs.Told.{IsInForm}
 use Rattle.wblock_modules.specs.declared.text.Found.{Found}
 use Rattle.wblock_modules.specs.declared.text.Found.TheVariants as found
 
@@ -27,10 +28,10 @@ pub record IsTextOf (unchecked : Bool) (bytes text : List ℕ) : Type 0 where
   pub names : Names text tree
 
 -- the file is to hold a text that names the module
-pub record TellsText (unchecked : Bool) (bytes target : List ℕ) (a : Answer) : Type 0 where
+pub record TellsText (unchecked json : Bool) (bytes target : List ℕ) (a : Answer) : Type 0 where
   pub text : List ℕ
   pub is_text : IsTextOf unchecked bytes text
-  pub is_done : IsCounted (codes "text") target text a
+  pub is_done : IsCounted json (codes "text") target text a
 
 -- ---- modules without a text
 
@@ -59,12 +60,14 @@ pub record TellsUnread (unchecked : Bool) (bytes line : List ℕ) : Type 0 where
 
 -- ---- answers
 
-abbrev pub IsAnswer : (unchecked : Bool) → List ℕ → List ℕ → Answer → Type 0
-IsAnswer unchecked bytes target (Done writes line) = TellsText unchecked bytes target (Done writes line)
-IsAnswer unchecked bytes target (Refused line why) = TellsUnread unchecked bytes (string_bytes line) ⊎ TellsUnwritten unchecked bytes (string_bytes line)
+abbrev pub IsAnswer : (unchecked json : Bool) → List ℕ → List ℕ → Answer → Type 0
+IsAnswer unchecked json bytes target (Done writes line) = TellsText unchecked json bytes target (Done writes line)
+IsAnswer unchecked json bytes target (Refused line why) = TellsUnread unchecked bytes (string_bytes line) ⊎ TellsUnwritten unchecked bytes (string_bytes line)
 
--- what is answered to the module in the file of a name
-pub record WritesText (unchecked : Bool) (holds : Holding) (source target : List ℕ) (answer : Answer) : Type 0 where
+-- what is answered to the module in the file of a name, a refusal in the form that is asked for
+pub record WritesText (unchecked json : Bool) (holds : Holding) (source target : List ℕ) (answer : Answer) : Type 0 where
   pub bytes : List ℕ
   pub held : holds source ≡ Some bytes
-  pub answers : IsAnswer unchecked bytes target answer
+  pub plain : Answer
+  pub answers : IsAnswer unchecked json bytes target plain
+  pub told : IsInForm json plain answer

@@ -1,4 +1,4 @@
-//! The command `asm TEXT MODULE`: the module that a text names, in its shortest spelling. Its tree stands in an arena.
+//! The command `asm TEXT MODULE [--json]`: the module that a text names, in its shortest spelling. Its tree stands in an arena.
 
 ghost use Rattle.std.specs.Prelude.{◌≡◌, IsTrue, IfOk, IfErr, OnOk, string_bytes};
 ghost use Rattle.text_resolve.specs.Refused.{Unless};
@@ -14,11 +14,15 @@ use lexer::LexRefusal;
 use std::alloc::{AllocError, Global};
 use std::str::from_utf8;
 use wblock_io::Files;
-use wblock_line::{Answer, Fault, read_file, write_counted};
+use wblock_line::{Answer, Fault, in_form, read_file, write_counted};
 use wblock_words::text_words;
 
 /// The shortest spelling of the module that a text names. Its tree stands in an arena.
-fn spell(alloc: Global, text: &str) -> Result<Vec<u8>, AsmRefusal>
+///
+/// # Errors
+///
+/// The first refusal of the text, which then names no module; or memory was refused.
+pub fn spell(alloc: Global, text: &str) -> Result<Vec<u8>, AsmRefusal>
     ensures spelled { IfOk result (λ v. IsSpelled text.now v.items) }
     ensures refused { IfErr result (Unless (NamesNothing text.now)) }
     ensures why { IfErr result (IsWhy text.now) }
@@ -33,7 +37,7 @@ fn spell(alloc: Global, text: &str) -> Result<Vec<u8>, AsmRefusal>
 }
 
 /// The number of a refusal, and its place or the number of the limit that is passed; or None for lack of memory.
-fn numbered(refusal: AsmRefusal) -> Option<(u8, usize)>
+pub fn numbered(refusal: AsmRefusal) -> Option<(u8, usize)>
     ensures { result ≡ told refusal }
 {
     match refusal {
@@ -79,13 +83,18 @@ fn refuse<'a>(alloc: Global, text: &str, refusal: AsmRefusal) -> Result<Answer<'
 }
 
 /// What the bytes of a text come to.
-fn answer_bytes<'a>(alloc: Global, target: &'a str, bytes: &[u8]) -> Result<Answer<'a>, Fault<'a>>
-    ensures answer { IfOk result (IsAnswer bytes.now target.entry.now) }
+fn answer_bytes<'a>(
+    alloc: Global,
+    json: bool,
+    target: &'a str,
+    bytes: &[u8],
+) -> Result<Answer<'a>, Fault<'a>>
+    ensures answer { IfOk result (IsAnswer json bytes.now target.entry.now) }
     ensures fault { IfErr result (λ f. f ≡ Fault.NoMemory) }
 {
     match from_utf8(bytes) {
         Ok(text) => match spell(alloc, text) {
-            Ok(spelled) => match write_counted(alloc, "assembled", target, spelled) {
+            Ok(spelled) => match write_counted(alloc, json, "assembled", target, spelled) {
                 Ok(answer) => Ok(answer),
                 Err(AllocError) => Err(Fault::NoMemory),
             },
@@ -102,19 +111,21 @@ fn answer_bytes<'a>(alloc: Global, target: &'a str, bytes: &[u8]) -> Result<Answ
 }
 
 /// What `asm` comes to: the shortest spelling of the module that the text of a file names is to be written to the file
-/// `target`, or the text is refused because it names no module. No file is written yet.
+/// `target`, or the text is refused because it names no module. It is told in a line or as JSON. No file is written yet.
 pub fn assemble_file<'a, F: Files>(
     alloc: Global,
     files: &mut F,
     text: &'a str,
     target: &'a str,
+    json: bool,
 ) -> Result<Answer<'a>, Fault<'a>>
-    ensures answers { IfOk result (λ a. IsTrue F.tells → Assembles (F.holds files.old) text.entry.now target.entry.now a) }
+    ensures answers { IfOk result (λ a. IsTrue F.tells → Assembles json (F.holds files.old) text.entry.now target.entry.now a) }
     ensures kept { IsTrue F.tells → F.holds files.new ≡ F.holds files.old }
     ensures calm { OnOk result (F.failures files.new ≡ F.failures files.old) }
     ensures counted { IfErr result (λ f. CountsFault f (F.failures files.old) (F.failures files.new)) }
     ensures named { IfErr result (IsOfFile (λ name. name ≡ text.entry.now)) }
 {
     let bytes = read_file(alloc, files, text)?;
-    answer_bytes(alloc, target, bytes.as_slice())
+    let plain = answer_bytes(alloc, json, target, bytes.as_slice())?;
+    in_form(alloc, json, plain)
 }

@@ -1,18 +1,27 @@
-//! The command `check MODULE [--heap N]`: whether a module is valid. Its tree stands in an arena, or in a heap of N bytes.
+//! The command `check MODULE [--heap N] [--json]`: whether a module is valid. Its tree stands in an arena, or in a heap of N bytes.
 
 ghost use Rattle.std.specs.Prelude.{◌≡◌, IsTrue, IfOk, IfErr, OnOk, string_bytes};
+ghost use Rattle.serde_json.specs.View.{view};
+ghost use Rattle.wblock_json.specs.Json.{IsJson, IsLineOf};
 ghost use Rattle.wblock_line.specs.Answers.{CountsFault, IsOfFile};
 ghost use Rattle.wblock_line.specs.Modules.{StopsAt};
-ghost use Rattle.wblock_modules.specs.Checks.{CountsFunctions, IsAnswer, Checks, valid_line};
+ghost use Rattle.wblock_modules.specs.Checks.{CountsFunctions, IsAnswer, IsValidText, Checks, valid_line};
+ghost use Rattle.wblock_modules.specs.Objects.{valid_data};
 
 use bumpalo::Bump;
 use linked_list_allocator::LocalHeap;
+use serde_json::{Value as Json, json};
 use std::alloc::{AllocError, Allocator, Global};
 use wblock_io::Files;
-use wblock_line::{Answer, Fault, Stop, read_file, read_valid};
+use wblock_json::value_line;
+use wblock_line::{Answer, Fault, Stop, in_form, read_file, read_valid};
 
 /// The number of the functions that a valid module defines. Its tree stands under `room`.
-fn count_functions<A: Allocator + Clone>(
+///
+/// # Errors
+///
+/// The first refusal of the bytes; or memory was refused.
+pub fn count_functions<A: Allocator + Clone>(
     alloc: Global,
     room: A,
     bytes: &[u8],
@@ -50,13 +59,43 @@ fn valid_text(alloc: Global, count: usize) -> Result<String, AllocError>
     Ok(text)
 }
 
-/// The line that tells a number of functions, or why a module is refused.
-fn answer_bytes<'a>(alloc: Global, heap: Option<u32>, bytes: &[u8]) -> Result<Answer<'a>, Fault<'a>>
-    ensures answer { IfOk result (IsAnswer bytes.now) }
+#[tactic(auto, unfolding(crate::specs::Objects::valid_data))]
+fn valid_of(alloc: Global, count: usize) -> Result<Json, AllocError>
+    ensures { IfOk result (λ v. view v ≡ valid_data count) }
+{
+    json!(in alloc; {"functions": count})
+}
+
+fn valid_json(alloc: Global, count: usize) -> Result<String, AllocError>
+    ensures { IfOk result (λ text. IsLineOf (IsJson (valid_data count)) (string_bytes text)) }
+{
+    let value = valid_of(alloc, count)?;
+    value_line(alloc, &value)
+}
+
+/// What is printed of a valid module that defines so many functions.
+fn valid_told(alloc: Global, json: bool, count: usize) -> Result<String, AllocError>
+    ensures { IfOk result (λ text. IsValidText json count (string_bytes text)) }
+{
+    if json {
+        valid_json(alloc, count)
+    } else {
+        valid_text(alloc, count)
+    }
+}
+
+/// What tells a number of functions, or why a module is refused.
+fn answer_bytes<'a>(
+    alloc: Global,
+    json: bool,
+    heap: Option<u32>,
+    bytes: &[u8],
+) -> Result<Answer<'a>, Fault<'a>>
+    ensures answer { IfOk result (IsAnswer json bytes.now) }
     ensures fault { IfErr result (λ f. f ≡ Fault.NoMemory) }
 {
     match count_in(alloc, heap, bytes) {
-        Ok(count) => match valid_text(alloc, count) {
+        Ok(count) => match valid_told(alloc, json, count) {
             Ok(text) => Ok(Answer::Done(Vec::new(alloc), text)),
             Err(AllocError) => Err(Fault::NoMemory),
         },
@@ -68,19 +107,22 @@ fn answer_bytes<'a>(alloc: Global, heap: Option<u32>, bytes: &[u8]) -> Result<An
     }
 }
 
-/// What `check` comes to: how many functions the module of a file defines, where it is valid, or why it is refused. No file is written.
+/// What `check` comes to: how many functions the module of a file defines, where it is valid, or why it is refused. It is told in a line or as JSON. No
+/// file is written.
 pub fn check_module<'a, F: Files>(
     alloc: Global,
     files: &mut F,
     target: &'a str,
     heap: Option<u32>,
+    json: bool,
 ) -> Result<Answer<'a>, Fault<'a>>
-    ensures answers { IfOk result (λ a. IsTrue F.tells → Checks (F.holds files.old) target.entry.now a) }
+    ensures answers { IfOk result (λ a. IsTrue F.tells → Checks json (F.holds files.old) target.entry.now a) }
     ensures kept { IsTrue F.tells → F.holds files.new ≡ F.holds files.old }
     ensures calm { OnOk result (F.failures files.new ≡ F.failures files.old) }
     ensures counted { IfErr result (λ f. CountsFault f (F.failures files.old) (F.failures files.new)) }
     ensures named { IfErr result (IsOfFile (λ name. name ≡ target.entry.now)) }
 {
     let bytes = read_file(alloc, files, target)?;
-    answer_bytes(alloc, heap, bytes.as_slice())
+    let plain = answer_bytes(alloc, json, heap, bytes.as_slice())?;
+    in_form(alloc, json, plain)
 }

@@ -1,57 +1,113 @@
-//! The command `deploy WORLD MODULE... [--onto OLD]`: the world of the contracts that modules are, with no cells; or the world OLD with these contracts
+//! The command `deploy WORLD MODULE... [--onto OLD] [--json]`: the world of the contracts that modules are, with no cells; or the world OLD with these contracts
 //! behind its own.
 
-ghost use Rattle.std.specs.Prelude.{◌≡◌, ◌+◌, ◌≤◌, IsTrue, IfOk, IfErr, OnOk, length, vec_len, map, string_bytes};
+ghost use Rattle.std.specs.Prelude.{◌≡◌, ◌+◌, ◌≤◌, [], ◌∷◌, ◌++◌, true, false, IsTrue, IfOk, IfErr, OnOk, length, vec_len, map, string_bytes};
 ghost use Rattle.spec_block.specs.Bytes.{world_bytes};
-ghost use Rattle.wblock_line.specs.Answers.{CountsFault, IsOfFile};
+ghost use Rattle.serde_json.specs.View.{view};
+ghost use Rattle.wblock_json.specs.Json.{IsJson, IsLineOf};
+ghost use Rattle.wblock_line.specs.Refusals.{refusal_text};
+ghost use Rattle.wblock_line.specs.Answers.{CountsFault, IsOfFile, upshot_of};
+ghost use Rattle.wblock_line.specs.Transitions.{leaving, WritesBeside};
 ghost use Rattle.world.specs.Views.{contract_view, world_view};
-ghost use Rattle.wblock_modules.specs.Deploys.{HasCount, IsRead, IsRefusalLine, IsNextModule, IsDone, IsEmpty, IsOld, IsNextDeployed, GivesBase, TellsCount, Deploys, Extends, extended, onto_text};
+ghost use Rattle.wblock_modules.specs.Deploys.{HasCount, IsDeployedText, IsModuleLine, IsRead, IsReadBehind, FitsBehind, IsRefusalLine, IsNextModule, IsDone, IsEmpty, IsOld, IsNextDeployed, GivesBase, TellsCount, Deploys, extended, onto_text, refusal_line};
+ghost use Rattle.wblock_modules.specs.Objects.{deployed_data, onto_data};
 
 use link::deployed::Deployed;
+use serde_json::{Value as Json, json};
 use std::alloc::{AllocError, Global};
 use storage::Cells;
 use wblock_io::Files;
+use wblock_json::{json_refusal, value_line};
 use wblock_line::{
-    Answer, Fault, ModuleRefusal, Stop, WorldFile, Write, read_contract, read_file, read_world_file,
+    Answer, Change, Fault, ModuleRefusal, NextWorld, Noted, Stop, Transition, WorldFile,
+    read_contract, read_file, read_world_file, refuse, with_world,
 };
 use world::{World, encode_world};
 use wtypes::NoMemory;
 
 /// What the modules of the files come to.
 #[derive(Drop)]
-enum Modules {
+pub enum Modules {
     /// The contracts, in their order.
     Linked(Vec<Deployed<Global>>),
-    /// One is refused, with this line and this sentence.
+    /// One is refused, or they are too many, with what is to be printed and this sentence.
     Refused(String, String),
 }
 
-/// The line of the module of these bytes and this number that is refused, and the sentence of the refusal.
+/// The line of the module of this number that is refused.
+fn module_line(alloc: Global, refusal: ModuleRefusal, number: usize) -> Result<String, AllocError>
+    ensures { IfOk result (λ text. string_bytes text ≡ refusal_line refusal number) }
+{
+    let line = format!(in alloc; "{refusal} module {number}\n")?;
+    Ok(line)
+}
+
+/// The line of a refusal.
+fn line_of(alloc: Global, refusal: ModuleRefusal) -> Result<String, AllocError>
+    ensures { IfOk result (λ text. string_bytes text ≡ refusal_text refusal ++ 10 ∷ []) }
+{
+    let line = format!(in alloc; "{refusal}\n")?;
+    Ok(line)
+}
+
+/// The object of the module of this number that is refused, with this sentence.
+fn module_object(
+    alloc: Global,
+    refusal: ModuleRefusal,
+    number: usize,
+    why: &str,
+) -> Result<String, AllocError>
+    ensures { IfOk result (λ text. IsModuleLine true refusal number (string_bytes text) why.now) }
+{
+    let line = line_of(alloc, refusal)?;
+    json_refusal(alloc, Some(number), line.as_str(), why)
+}
+
+/// What is told of the module of this number that is refused: the line, or the same as JSON, with this sentence.
+fn module_told(
+    alloc: Global,
+    json: bool,
+    refusal: ModuleRefusal,
+    number: usize,
+    why: &str,
+) -> Result<String, AllocError>
+    ensures { IfOk result (λ text. IsModuleLine json refusal number (string_bytes text) why.now) }
+{
+    if json {
+        module_object(alloc, refusal, number, why)
+    } else {
+        module_line(alloc, refusal, number)
+    }
+}
+
+/// What is told of the module of these bytes and this number that is refused; and the sentence of the refusal.
 fn refusal_of(
     alloc: Global,
+    json: bool,
     bytes: &[u8],
     refusal: ModuleRefusal,
     number: usize,
 ) -> Result<Modules, AllocError>
-    ensures { IfOk result (IsRefusalLine refusal number) }
+    ensures { IfOk result (IsRefusalLine json refusal number) }
 {
-    let line = format!(in alloc; "{refusal} module {number}\n")?;
     let words = refusal.words(alloc, bytes)?;
     let why = format!(in alloc; "module {number}: {words}")?;
-    Ok(Modules::Refused(line, why))
+    let told = module_told(alloc, json, refusal, number, why.as_str())?;
+    Ok(Modules::Refused(told, why))
 }
 
 /// The same, with the fault of a command.
-fn refuse<'a>(
+fn refuse_module<'a>(
     alloc: Global,
+    json: bool,
     bytes: &[u8],
     refusal: ModuleRefusal,
     number: usize,
 ) -> Result<Modules, Fault<'a>>
-    ensures line { IfOk result (IsRefusalLine refusal number) }
+    ensures line { IfOk result (IsRefusalLine json refusal number) }
     ensures fault { IfErr result (λ f. f ≡ Fault.NoMemory) }
 {
-    match refusal_of(alloc, bytes, refusal, number) {
+    match refusal_of(alloc, json, bytes, refusal, number) {
         Ok(refused) => Ok(refused),
         Err(AllocError) => Err(Fault::NoMemory),
     }
@@ -61,10 +117,11 @@ fn refuse<'a>(
 fn read_modules<'a, F: Files>(
     alloc: Global,
     files: &mut F,
+    json: bool,
     names: &[&'a str],
 ) -> Result<Modules, Fault<'a>>
     ensures count { IfOk result (HasCount (length names.now)) }
-    ensures read { IfOk result (λ m. IsTrue F.tells → IsRead (F.holds files.old) (map (λ w. w.now) names.now) m) }
+    ensures read { IfOk result (λ m. IsTrue F.tells → IsRead json (F.holds files.old) (map (λ w. w.now) names.now) m) }
     ensures kept { IsTrue F.tells → F.holds files.new ≡ F.holds files.old }
     ensures calm { OnOk result (F.failures files.new ≡ F.failures files.old) }
     ensures counted { IfErr result (λ f. CountsFault f (F.failures files.old) (F.failures files.new)) }
@@ -79,7 +136,9 @@ fn read_modules<'a, F: Files>(
                 Ok(()) => number += 1,
                 Err(_) => return Err(Fault::NoMemory),
             },
-            Err(Stop::Refused(refusal)) => return refuse(alloc, bytes.as_slice(), refusal, number),
+            Err(Stop::Refused(refusal)) => {
+                return refuse_module(alloc, json, bytes.as_slice(), refusal, number);
+            }
             Err(Stop::NoMemory) => return Err(Fault::NoMemory),
         }
     }
@@ -87,7 +146,7 @@ fn read_modules<'a, F: Files>(
 }
 
 /// The world of nothing.
-fn empty_world(alloc: Global) -> World
+pub fn empty_world(alloc: Global) -> World
     ensures { IsEmpty (world_view result) }
 {
     World::new(Vec::new(alloc), Cells::new(alloc))
@@ -119,8 +178,28 @@ fn count_of(world: &World) -> usize
     world.contracts().len()
 }
 
+/// A world with these contracts behind its own.
+fn extended_world(
+    alloc: Global,
+    base: World,
+    contracts: Vec<Deployed<Global>>,
+) -> Result<World, AllocError>
+    requires { length (world_view base).contracts + vec_len contracts ≤ 1024 }
+    ensures { IfOk result (λ world. world_view world ≡ extended (world_view base) (map contract_view contracts.items)) }
+{
+    let mut behind = contracts;
+    let (mut all, cells) = base.into_parts();
+    all.append(&mut behind)?;
+    let world = World::new(all, cells);
+    Ok(world)
+}
+
 /// The bytes of a world with these contracts behind its own.
-fn encode_extended(
+///
+/// # Errors
+///
+/// Memory was refused.
+pub fn encode_extended(
     alloc: Global,
     base: World,
     contracts: Vec<Deployed<Global>>,
@@ -128,10 +207,7 @@ fn encode_extended(
     requires { length (world_view base).contracts + vec_len contracts ≤ 1024 }
     ensures { IfOk result (λ bytes. bytes.items ≡ world_bytes (extended (world_view base) (map contract_view contracts.items))) }
 {
-    let mut behind = contracts;
-    let (mut all, cells) = base.into_parts();
-    all.append(&mut behind)?;
-    let world = World::new(all, cells);
+    let world = extended_world(alloc, base, contracts)?;
     encode_world(alloc, &world)
 }
 
@@ -145,112 +221,194 @@ fn onto_text_of(alloc: Global, onto: Option<&str>, count: usize) -> Result<Strin
     }
 }
 
-/// The answer of so many contracts, whose world these bytes are, with this behind its line.
-fn done<'a>(
+/// `deployed N contracts`, and ` onto M` behind it.
+fn deployed_text_of(
     alloc: Global,
-    world: &'a str,
-    bytes: Vec<u8>,
     count: usize,
-    behind: &String,
-) -> Result<Answer<'a>, AllocError>
-    ensures { IfOk result (λ a. IsDone world.entry.now bytes.items count (string_bytes behind.now) a) }
+    onto: Option<&str>,
+    before: usize,
+) -> Result<String, AllocError>
+    ensures { IfOk result (λ text. IsDeployedText false count onto.entry before (string_bytes text)) }
 {
+    let behind = onto_text_of(alloc, onto, before)?;
     let text = format!(in alloc; "deployed {count} contracts{behind}\n")?;
-    let mut writes = Vec::new(alloc);
-    writes.push(Write { name: world, bytes })?;
-    Ok(Answer::Done(writes, text))
+    Ok(text)
 }
 
-/// The answer of these contracts behind those of a world, which is that of OLD where OLD is named.
-fn extend<'a>(
+/// The number of OLD's contracts, where OLD is named.
+fn onto_of(onto: Option<&str>, before: usize) -> Json
+    ensures { view result ≡ onto_data onto.entry before }
+{
+    match onto {
+        None => Json::Null,
+        Some(_) => Json::from(before),
+    }
+}
+
+/// The same as JSON.
+#[tactic(auto, unfolding(crate::specs::Objects::deployed_data))]
+fn deployed_of(
     alloc: Global,
+    count: usize,
+    onto: Option<&str>,
+    before: usize,
+) -> Result<Json, AllocError>
+    ensures { IfOk result (λ v. view v ≡ deployed_data count onto.entry before) }
+{
+    let onto = onto_of(onto, before);
+    json!(in alloc; {"contracts": count, "onto": onto})
+}
+
+/// The line of the same as JSON.
+fn deployed_json_of(
+    alloc: Global,
+    count: usize,
+    onto: Option<&str>,
+    before: usize,
+) -> Result<String, AllocError>
+    ensures { IfOk result (λ text. IsLineOf (IsJson (deployed_data count onto.entry before)) (string_bytes text)) }
+{
+    let value = deployed_of(alloc, count, onto, before)?;
+    value_line(alloc, &value)
+}
+
+/// What is printed of so many contracts behind so many of OLD.
+fn deployed_told(
+    alloc: Global,
+    json: bool,
+    count: usize,
+    onto: Option<&str>,
+    before: usize,
+) -> Result<String, AllocError>
+    ensures { IfOk result (λ text. IsDeployedText json count onto.entry before (string_bytes text)) }
+{
+    if json {
+        deployed_json_of(alloc, count, onto, before)
+    } else {
+        deployed_text_of(alloc, count, onto, before)
+    }
+}
+
+/// What is done with these contracts behind those of a world, which is that of OLD where OLD is named: the world of all of them is left, to be written.
+///
+/// # Errors
+///
+/// Memory was refused.
+pub fn extend<'a>(
+    alloc: Global,
+    json: bool,
+    world: &'a str,
+    onto: Option<&str>,
+    base: World,
+    contracts: Vec<Deployed<Global>>,
+) -> Result<Transition<'a>, NoMemory>
+    requires { length (world_view base).contracts + vec_len contracts ≤ 1024 }
+    ensures beside { IfOk result (WritesBeside 0) }
+    ensures done { IfOk result (λ t. IsDone json world.entry.now (world_bytes (extended (world_view base) (map contract_view contracts.items))) (vec_len contracts) onto.entry (length (world_view base).contracts) (leaving t)) }
+{
+    let count = contracts.len();
+    let before = count_of(&base);
+    let text = deployed_told(alloc, json, count, onto, before)?;
+    let next = NextWorld {
+        name: world,
+        world: extended_world(alloc, base, contracts)?,
+    };
+    Ok(Transition::Done(Change {
+        writes: Vec::new(alloc),
+        next: Some(next),
+        text,
+        note: String::new(alloc),
+    }))
+}
+
+/// The same, with the bytes of the world.
+fn extend_encoded<'a>(
+    alloc: Global,
+    json: bool,
     world: &'a str,
     onto: Option<&str>,
     base: World,
     contracts: Vec<Deployed<Global>>,
 ) -> Result<Answer<'a>, NoMemory>
     requires { length (world_view base).contracts + vec_len contracts ≤ 1024 }
-    ensures { IfOk result (λ a. IsDone world.entry.now (world_bytes (extended (world_view base) (map contract_view contracts.items))) (vec_len contracts) (onto_text onto.entry (length (world_view base).contracts)) a) }
+    ensures { IfOk result (λ a. IsDone json world.entry.now (world_bytes (extended (world_view base) (map contract_view contracts.items))) (vec_len contracts) onto.entry (length (world_view base).contracts) (upshot_of a)) }
 {
-    let count = contracts.len();
-    let behind = onto_text_of(alloc, onto, count_of(&base))?;
-    let bytes = encode_extended(alloc, base, contracts)?;
-    Ok(done(alloc, world, bytes, count, &behind)?)
+    let transition = extend(alloc, json, world, onto, base, contracts)?;
+    let Noted {
+        answer,
+        note: _note,
+    } = with_world(alloc, transition)?;
+    Ok(answer)
 }
 
-/// What the modules come to behind the contracts of a world.
-fn deploy_behind<'a, F: Files>(
+/// What is said of so many contracts of OLD and so many modules, which are too many for a world.
+fn refuse_crowd(
     alloc: Global,
-    files: &mut F,
-    world: &'a str,
-    onto: Option<&'a str>,
-    base: World,
-    modules: &[&'a str],
-) -> Result<Answer<'a>, Fault<'a>>
-    requires { length (world_view base).contracts + length modules.now ≤ 1024 }
-    ensures answers { IfOk result (λ a. IsTrue F.tells → Extends (F.holds files.old) world.entry.now onto.entry (world_view base) (map (λ w. w.now) modules.now) a) }
-    ensures kept { IsTrue F.tells → F.holds files.new ≡ F.holds files.old }
-    ensures calm { OnOk result (F.failures files.new ≡ F.failures files.old) }
-    ensures counted { IfErr result (λ f. CountsFault f (F.failures files.old) (F.failures files.new)) }
-    ensures next { IfErr result (IsOfFile (λ name. IsTrue F.tells → IsNextModule (F.holds files.old) (map (λ w. w.now) modules.now) name)) }
-{
-    match read_modules(alloc, files, modules)? {
-        Modules::Refused(line, why) => Ok(Answer::Refused(line, why)),
-        Modules::Linked(contracts) => match extend(alloc, world, onto, base, contracts) {
-            Ok(answer) => Ok(answer),
-            Err(NoMemory) => Err(Fault::NoMemory),
-        },
-    }
-}
-
-/// The answer that so many contracts of OLD and so many modules are too many for a world.
-fn crowd_answer<'a>(
-    alloc: Global,
+    json: bool,
     contracts: usize,
     modules: usize,
-) -> Result<Answer<'a>, AllocError>
+) -> Result<Modules, AllocError>
     requires contracts { contracts ≤ 1024 }
     requires modules { modules ≤ 1024 }
-    ensures { IfOk result (TellsCount (contracts + modules)) }
+    ensures { IfOk result (TellsCount json (contracts + modules)) }
 {
     let count = contracts + modules;
     let line = format!(in alloc; "refused deploy 6 {count}\n")?;
     let why = format!(in alloc;
         "world: {contracts} contracts of OLD and {modules} modules are more than 1,024 contracts; deploy fewer"
     )?;
-    Ok(Answer::Refused(line, why))
+    if json {
+        let told = json_refusal(alloc, None, line.as_str(), why.as_str())?;
+        return Ok(Modules::Refused(told, why));
+    }
+    Ok(Modules::Refused(line, why))
 }
 
-/// The same, with the fault of a command.
-fn refuse_crowd<'a>(
+/// Reads modules that are to stand behind the contracts of a world: they are refused where they are too many, and none is read then; else each is judged
+/// before the next is read.
+#[tactic(auto, using(crate::proofs::Behind::crowd_fits, crate::proofs::Behind::crowd_count, crate::proofs::Behind::crowd_read))]
+pub fn read_modules_behind<'a, F: Files>(
     alloc: Global,
-    contracts: usize,
-    modules: usize,
-) -> Result<Answer<'a>, Fault<'a>>
-    requires contracts { contracts ≤ 1024 }
-    requires modules { modules ≤ 1024 }
-    ensures line { IfOk result (TellsCount (contracts + modules)) }
-    ensures fault { IfErr result (λ f. f ≡ Fault.NoMemory) }
+    files: &mut F,
+    json: bool,
+    base: &World,
+    names: &[&'a str],
+) -> Result<Modules, Fault<'a>>
+    requires { length names.now ≤ 1024 }
+    ensures fits { IfOk result (FitsBehind (world_view base.now)) }
+    ensures count { IfOk result (HasCount (length names.now)) }
+    ensures read { IfOk result (λ m. IsTrue F.tells → IsReadBehind json (F.holds files.old) (world_view base.now) (map (λ w. w.now) names.now) m) }
+    ensures kept { IsTrue F.tells → F.holds files.new ≡ F.holds files.old }
+    ensures calm { OnOk result (F.failures files.new ≡ F.failures files.old) }
+    ensures counted { IfErr result (λ f. CountsFault f (F.failures files.old) (F.failures files.new)) }
+    ensures room { IfErr result (IsOfFile (λ name. length (world_view base.now).contracts + length names.now ≤ 1024)) }
+    ensures next { IfErr result (IsOfFile (λ name. IsTrue F.tells → IsNextModule (F.holds files.old) (map (λ w. w.now) names.now) name)) }
 {
-    match crowd_answer(alloc, contracts, modules) {
-        Ok(refused) => Ok(refused),
-        Err(AllocError) => Err(Fault::NoMemory),
+    let contracts = count_of(base);
+    let is_crowded = contracts + names.len() > World::MOST_CONTRACTS;
+    if is_crowded {
+        return match refuse_crowd(alloc, json, contracts, names.len()) {
+            Ok(refused) => Ok(refused),
+            Err(AllocError) => Err(Fault::NoMemory),
+        };
     }
+    read_modules(alloc, files, json, names)
 }
 
 /// What `deploy` comes to: the world of the contracts that the modules of the files are, in their order, is to be written. They stand behind the
 /// contracts of OLD, whose numbers stay, and over its cells; where no OLD is named, there are no others and no cells. Or OLD is refused, since it
-/// holds no world, or since the contracts are more than 1,024 in all; no module is read then. Or the first module that gives no contract is. No file
-/// is written yet.
+/// holds no world, or since the contracts are more than 1,024 in all; no module is read then. Or the first module that gives no contract is. It is told
+/// in lines or as JSON. No file is written yet.
 pub fn deploy_modules<'a, F: Files>(
     alloc: Global,
     files: &mut F,
+    json: bool,
     world: &'a str,
     onto: Option<&'a str>,
     modules: &[&'a str],
 ) -> Result<Answer<'a>, Fault<'a>>
     requires { length modules.now ≤ 1024 }
-    ensures answers { IfOk result (λ a. IsTrue F.tells → Deploys (F.holds files.old) world.entry.now onto.entry (map (λ w. w.now) modules.now) a) }
+    ensures answers { IfOk result (λ a. IsTrue F.tells → Deploys json (F.holds files.old) world.entry.now onto.entry (map (λ w. w.now) modules.now) (upshot_of a)) }
     ensures kept { IsTrue F.tells → F.holds files.new ≡ F.holds files.old }
     ensures calm { OnOk result (F.failures files.new ≡ F.failures files.old) }
     ensures counted { IfErr result (λ f. CountsFault f (F.failures files.old) (F.failures files.new)) }
@@ -258,15 +416,15 @@ pub fn deploy_modules<'a, F: Files>(
 {
     let base = match read_base(alloc, files, onto)? {
         WorldFile::Read(base) => base,
-        WorldFile::Refused(line, why) => return Ok(Answer::Refused(line, why)),
+        WorldFile::Refused(line, why) => return refuse(alloc, json, line, why),
     };
-    let contracts = count_of(&base);
-    let is_crowded = contracts + modules.len() > World::MOST_CONTRACTS;
-    if is_crowded {
-        return refuse_crowd(alloc, contracts, modules.len());
-    }
-    match deploy_behind(alloc, files, world, onto, base, modules) {
-        Ok(answer) => Ok(answer),
-        Err(fault) => Err(fault),
+    match read_modules_behind(alloc, files, json, &base, modules)? {
+        Modules::Refused(told, why) => Ok(Answer::Refused(told, why)),
+        Modules::Linked(contracts) => {
+            match extend_encoded(alloc, json, world, onto, base, contracts) {
+                Ok(answer) => Ok(answer),
+                Err(NoMemory) => Err(Fault::NoMemory),
+            }
+        }
     }
 }

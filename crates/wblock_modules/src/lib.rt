@@ -7,7 +7,10 @@ mod deploy;
 mod places;
 mod text;
 
-pub use asm::assemble_file;
-pub use check::check_module;
-pub use deploy::deploy_modules;
-pub use text::write_text;
+pub use asm::{assemble_file, numbered, spell};
+pub use check::{check_module, count_functions};
+pub use deploy::{
+    Modules, deploy_modules, empty_world, encode_extended, extend, read_modules_behind,
+};
+pub use places::{front_of, place_of_fault};
+pub use text::{Found, find_text, write_text};

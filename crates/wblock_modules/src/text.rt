@@ -1,4 +1,4 @@
-//! The command `text MODULE TEXT [--unchecked]`: a text that names a module.
+//! The command `text MODULE TEXT [--unchecked] [--json]`: a text that names a module.
 
 ghost use Rattle.std.specs.Prelude.{◌≡◌, true, IsTrue, IfOk, IfErr, OnOk, string_bytes};
 ghost use Rattle.module_tree.specs.Modules.{module_view};
@@ -10,11 +10,13 @@ use module_text::{TextRefusal, text_of};
 use module_tree::module::Module;
 use std::alloc::{AllocError, Global};
 use wblock_io::Files;
-use wblock_line::{Answer, Fault, Stop, read_file, read_module, read_valid, write_counted};
+use wblock_line::{
+    Answer, Fault, Stop, in_form, read_file, read_module, read_valid, write_counted,
+};
 
 /// What a module comes to.
 #[derive(Drop)]
-enum Found {
+pub enum Found {
     /// This text names it.
     Text(String),
     /// Its text would be too long.
@@ -43,7 +45,11 @@ fn read_tree(alloc: Global, unchecked: bool, bytes: &[u8]) -> Result<Module<Glob
 }
 
 /// The text of the module of these bytes, where it is valid; unchecked, valid or not.
-fn find_text(alloc: Global, unchecked: bool, bytes: &[u8]) -> Result<Found, Stop>
+///
+/// # Errors
+///
+/// The first refusal of the bytes; or memory was refused.
+pub fn find_text(alloc: Global, unchecked: bool, bytes: &[u8]) -> Result<Found, Stop>
     ensures found { IfOk result (IsFound unchecked bytes.now) }
     ensures refused { IfErr result (StopsAt bytes.now) }
     ensures none { IfErr result (λ s. unchecked ≡ true → IsUnspelled bytes.now s) }
@@ -57,6 +63,19 @@ fn find_text(alloc: Global, unchecked: bool, bytes: &[u8]) -> Result<Found, Stop
         Err(TextRefusal::TooLong) => Ok(Found::TooLong),
         Err(TextRefusal::Unwritten) => Ok(Found::Unwritten),
         Err(TextRefusal::NoMemory) => Err(Stop::NoMemory),
+    }
+}
+
+impl Found {
+    /// Why there is no text, for people; nothing where there is one.
+    pub fn advice(&self) -> &'static str {
+        match self {
+            Found::Text(_) => "",
+            Found::TooLong => {
+                "the module's text would have more than 1048576 bytes, the most that `asm` takes"
+            }
+            Found::Unwritten => "no text was found that names the module",
+        }
     }
 }
 
@@ -74,23 +93,20 @@ fn unwritten_text(alloc: Global, number: u8, why: &str) -> Result<(String, Strin
 fn answer_or_refuse<'a>(
     alloc: Global,
     unchecked: bool,
+    json: bool,
     target: &'a str,
     bytes: &[u8],
 ) -> Result<Answer<'a>, AllocError>
-    ensures { IfOk result (IsAnswer unchecked bytes.now target.entry.now) }
+    ensures { IfOk result (IsAnswer unchecked json bytes.now target.entry.now) }
 {
     match find_text(alloc, unchecked, bytes) {
-        Ok(Found::Text(text)) => write_counted(alloc, "text", target, text.into_bytes()),
+        Ok(Found::Text(text)) => write_counted(alloc, json, "text", target, text.into_bytes()),
         Ok(Found::TooLong) => {
-            let (line, why) = unwritten_text(
-                alloc,
-                1,
-                "the module's text would have more than 1048576 bytes, the most that `asm` takes",
-            )?;
+            let (line, why) = unwritten_text(alloc, 1, Found::TooLong.advice())?;
             Ok(Answer::Refused(line, why))
         }
         Ok(Found::Unwritten) => {
-            let (line, why) = unwritten_text(alloc, 2, "no text was found that names the module")?;
+            let (line, why) = unwritten_text(alloc, 2, Found::Unwritten.advice())?;
             Ok(Answer::Refused(line, why))
         }
         Err(Stop::Refused(refusal)) => {
@@ -102,23 +118,24 @@ fn answer_or_refuse<'a>(
 }
 
 /// What `text` comes to: a text that names the module of a file is to be written to the file `target`, where the module is valid, or, unchecked, valid or
-/// not; or why it is refused. No file is written yet.
+/// not; or why it is refused. It is told in a line or as JSON. No file is written yet.
 pub fn write_text<'a, F: Files>(
     alloc: Global,
     files: &mut F,
     source: &'a str,
     target: &'a str,
     unchecked: bool,
+    json: bool,
 ) -> Result<Answer<'a>, Fault<'a>>
-    ensures answers { IfOk result (λ a. IsTrue F.tells → WritesText unchecked (F.holds files.old) source.entry.now target.entry.now a) }
+    ensures answers { IfOk result (λ a. IsTrue F.tells → WritesText unchecked json (F.holds files.old) source.entry.now target.entry.now a) }
     ensures kept { IsTrue F.tells → F.holds files.new ≡ F.holds files.old }
     ensures calm { OnOk result (F.failures files.new ≡ F.failures files.old) }
     ensures counted { IfErr result (λ f. CountsFault f (F.failures files.old) (F.failures files.new)) }
     ensures named { IfErr result (IsOfFile (λ name. name ≡ source.entry.now)) }
 {
     let bytes = read_file(alloc, files, source)?;
-    match answer_or_refuse(alloc, unchecked, target, bytes.as_slice()) {
-        Ok(answer) => Ok(answer),
+    match answer_or_refuse(alloc, unchecked, json, target, bytes.as_slice()) {
+        Ok(plain) => in_form(alloc, json, plain),
         Err(AllocError) => Err(Fault::NoMemory),
     }
 }

@@ -2,8 +2,7 @@
 
 ghost use Rattle.std.specs.Prelude.{◌≡◌, ◌<◌, ◌^◌, IfOk, length, map};
 ghost use Rattle.std.specs.FinMap.{entries};
-ghost use Rattle.spec_block.specs.Worlds.{held_in};
-ghost use Rattle.figures.specs.Chains.{lists_of};
+ghost use Rattle.spec_block.specs.Worlds.{held_in, profiles_in};
 ghost use Rattle.lock_profile.specs.Groups.{pairs};
 ghost use Rattle.wblock_picture.specs.Drawings.{AreTakenTurns, Take};
 
@@ -44,7 +43,7 @@ fn taken_by(alloc: Global, position: &Position) -> Result<Touched, NoMemory>
 /// What each position takes.
 fn all_taken(alloc: Global, positions: &[Position]) -> Result<Vec<Touched>, NoMemory>
     ensures each { IfOk result (λ touched. length touched.items ≡ length positions.now) }
-    ensures taken { IfOk result (λ touched. Take (lists_of positions.now) touched.items) }
+    ensures taken { IfOk result (λ touched. Take (profiles_in positions.now) touched.items) }
 {
     let mut touched = Vec::new(alloc);
     for position in positions {
@@ -56,7 +55,7 @@ fn all_taken(alloc: Global, positions: &[Position]) -> Result<Vec<Touched>, NoMe
 /// The profiles of positions with the turns that their modes have in this order, whatever turns they publish.
 pub(crate) fn turns_taken(alloc: Global, positions: &[Position]) -> Result<Vec<Profile>, NoMemory>
     requires { length positions.now < 2 ^ 16 }
-    ensures { IfOk result (λ profiles. AreTakenTurns (lists_of positions.now) profiles.items) }
+    ensures { IfOk result (λ profiles. AreTakenTurns (profiles_in positions.now) profiles.items) }
 {
     let touched = all_taken(alloc, positions)?;
     let profiles = turns(alloc, &touched)?;

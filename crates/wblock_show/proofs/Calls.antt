@@ -9,8 +9,8 @@ use Rattle.spec_block.specs.Bytes.{SpellsBlock}
 use Rattle.spec_block.specs.Verdicts.{IsLeast}
 use Rattle.block.specs.Reading.{block_at}
 use Rattle.block.specs.Refusals.{Refuses}
-use Rattle.block.specs.declared.refusal.BlockRefusal.{BlockRefusal}
-use Rattle.block.specs.declared.refusal.BlockRefusal.TheVariants.{NoMemory}
+use Rattle.records.specs.declared.refusal.BlockRefusal.{BlockRefusal}
+use Rattle.records.specs.declared.refusal.BlockRefusal.TheVariants.{NoMemory}
 use Rattle.records.specs.Reading.{whole}
 use Rattle.wblock_show.specs.Shows.{numbers_of, IsBlockLine, NamesNoCall, TellsNoBlock}
 

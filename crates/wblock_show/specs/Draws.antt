@@ -1,5 +1,5 @@
 -- What `show` answers where a picture is asked for.
-use Rattle.std.specs.Prelude.{◌≡◌, ◌⊎◌, ℕ, Option, Some, None, List, codes, string_bytes}
+use Rattle.std.specs.Prelude.{◌≡◌, ◌⊎◌, ℕ, false, Option, Some, None, List, codes, string_bytes}
 use Rattle.spec_block.specs.Worlds.{Block}
 use Rattle.spec_block.specs.Bytes.{SpellsBlock}
 use Rattle.wblock_picture.specs.Drawings.{IsPictureOf}
@@ -16,7 +16,7 @@ use Rattle.wblock_show.specs.Shows.{IsUnspelled}
 pub record TellsPicture (b : Block) (target : List ℕ) (a : Answer) : Type 0 where
   pub text : List ℕ
   pub is_picture : IsPictureOf b text
-  pub is_done : IsCounted (codes "picture") target text a
+  pub is_done : IsCounted false (codes "picture") target text a
 
 -- the block that the bytes spell is drawn
 pub record DrawsSpelled (bytes target : List ℕ) (a : Answer) : Type 0 where

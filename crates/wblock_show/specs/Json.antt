@@ -1,8 +1,9 @@
 -- What `show --json` answers.
-use Rattle.std.specs.Prelude.{◌≡◌, ◌⊎◌, ℕ, Bool, Option, Some, None, List, [], ◌∷◌, ◌++◌, length}
-use Rattle.spec_syntax.specs.Syntax.{Module}
+use Rattle.std.specs.Prelude.{◌≡◌, ◌⊎◌, ℕ, Bool, true, Option, Some, None, List, [], length}
+use Rattle.spec_modules.specs.Syntax.{Module}
 use Rattle.spec_block.specs.Worlds.{Block, Call, World}
 use Rattle.spec_block.specs.Bytes.{SpellsBlock, SpellsWorld}
+use Rattle.wblock_json.specs.Json.{IsLineOf}
 use Rattle.wblock_json.specs.Blocks.{IsBlockJson}
 use Rattle.wblock_json.specs.Modules.{IsModuleJson}
 use Rattle.wblock_json.specs.Worlds.{IsWorldJson}
@@ -13,18 +14,13 @@ use Rattle.wblock_line.specs.Answers.{writes_of, text_of, status_of}
 use Rattle.wblock_line.specs.declared.perform.Status.TheVariants as status
 use Rattle.wblock_line.specs.Modules.{IsValidOf}
 use Rattle.wblock_line.specs.Refusals.{TellsNoModule}
+use Rattle.wblock_line.specs.Told.{IsInForm}
 use Rattle.wblock_line.specs.Worlds.{TellsNoWorld}
 use Rattle.wblock_contents.specs.declared.kind.Kind.{Kind}
 use Rattle.wblock_contents.specs.declared.kind.Kind.TheVariants as kind
 use Rattle.wblock_contents.specs.Shows.{Answers, IsOfKind, IsUnknown}
 use Rattle.wblock_show.specs.declared.file.Showing.{Showing}
 use Rattle.wblock_show.specs.Shows.{AreItsCalls, HoldsNamedCalls, IsOfOther, IsUnspelled, TellsCallsRefusal}
-
--- a line of which this is true, and its newline
-pub record IsLineOf (Is : List ℕ → Type 0) (text : List ℕ) : Type 0 where
-  pub line : List ℕ
-  pub is : Is line
-  pub text_is : text ≡ line ++ 10 ∷ []
 
 -- ---- blocks
 
@@ -96,3 +92,9 @@ pub record TellsContents (holds : Holding) (task : Showing) (a : Answer) : Type 
 -- the block is told with its calls, where they are named, or else what is in the file, whatever its kind
 abbrev pub TellsNamed : Holding → Showing → Answer → Type 0
 TellsNamed holds task a = TellsContents holds task a ⊎ TellsFileBlock holds task a
+
+-- the same, and a refusal is an object, too
+pub record TellsJson (holds : Holding) (task : Showing) (a : Answer) : Type 0 where
+  pub plain : Answer
+  pub tells : TellsNamed holds task plain
+  pub told : IsInForm true plain a

@@ -9,7 +9,7 @@ use Rattle.wblock_show.specs.declared.file.Form.{Form}
 use Rattle.wblock_show.specs.declared.file.Form.TheVariants.{Text, Json, Picture}
 use Rattle.wblock_show.specs.declared.file.Showing.{Showing}
 use Rattle.wblock_show.specs.Draws.{DrawsFile}
-use Rattle.wblock_show.specs.Json.{TellsNamed}
+use Rattle.wblock_show.specs.Json.{TellsJson}
 use Rattle.wblock_show.specs.Shows.{Shows, ShowsBlock, IsNextFile}
 
 -- a block is shown without its calls
@@ -31,7 +31,7 @@ ShowsLines holds task a = ShowsContents holds task a ⊎ ShowsBlock holds task a
 -- the lines are printed, or the same as JSON; or the picture is written
 abbrev pub ShowsIn : Form → Holding → Showing → Answer → Type 0
 ShowsIn Text holds task a = ShowsLines holds task a
-ShowsIn Json holds task a = TellsNamed holds task a
+ShowsIn Json holds task a = TellsJson holds task a
 ShowsIn (Picture picture) holds task a = DrawsFile holds task.file.now picture.now a
 
 abbrev pub ShowsNamed : Holding → Showing → Answer → Type 0

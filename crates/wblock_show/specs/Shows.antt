@@ -5,8 +5,8 @@ use Rattle.sha2.specs.Sha256.{sha256}
 use Rattle.spec_block.specs.Worlds.{Block, Call, Position, order_of}
 use Rattle.spec_block.specs.Bytes.{SpellsBlock, calls_bytes}
 use Rattle.spec_block.specs.Verdicts.{IsLeast}
-use Rattle.block.specs.declared.refusal.BlockRefusal.{BlockRefusal}
-use Rattle.block.specs.declared.refusal.BlockRefusal.TheVariants.{Malformed, TooLarge, NoMemory}
+use Rattle.records.specs.declared.refusal.BlockRefusal.{BlockRefusal}
+use Rattle.records.specs.declared.refusal.BlockRefusal.TheVariants.{Malformed, TooLarge, NoMemory}
 use Rattle.block.specs.Refusals.{Refuses}
 use Rattle.block.specs.Reading.{block_at}
 use Rattle.records.specs.Reading.{whole}

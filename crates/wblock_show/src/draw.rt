@@ -27,7 +27,7 @@ fn draw_it<'a>(alloc: Global, block: &Block, picture: &'a str) -> Result<Answer<
     ensures { IfOk result (TellsPicture block.now picture.entry.now) }
 {
     let text = draw_block(alloc, block)?;
-    let answer = write_counted(alloc, "picture", picture, text.into_bytes())?;
+    let answer = write_counted(alloc, false, "picture", picture, text.into_bytes())?;
     Ok(answer)
 }
 

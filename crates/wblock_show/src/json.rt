@@ -1,9 +1,10 @@
 //! The command `show FILE --json [--calls CALLS] [--signed]`: what is in a module, a world or a block, as one JSON object on a line.
 
-ghost use Rattle.std.specs.Prelude.{◌≡◌, ◌∷◌, ◌++◌, [], IsTrue, IfOk, IfErr, MatchResult, OnOk, length, string_bytes};
+ghost use Rattle.std.specs.Prelude.{◌≡◌, IsTrue, IfOk, IfErr, MatchResult, OnOk, length, string_bytes};
 ghost use Rattle.module_tree.specs.Modules.{module_view};
 ghost use Rattle.typing.specs.Parts.{tree_of};
 ghost use Rattle.world.specs.Views.{world_view};
+ghost use Rattle.wblock_json.specs.Json.{IsLineOf};
 ghost use Rattle.wblock_json.specs.Blocks.{IsBlockJson};
 ghost use Rattle.wblock_json.specs.Modules.{IsModuleJson};
 ghost use Rattle.wblock_json.specs.Worlds.{IsWorldJson};
@@ -11,7 +12,7 @@ ghost use Rattle.wblock_line.specs.Answers.{CountsFault, IsOfFile};
 ghost use Rattle.wblock_line.specs.Refusals.{TellsNoModule};
 ghost use Rattle.wblock_line.specs.Worlds.{TellsNoWorld};
 ghost use Rattle.wblock_contents.specs.Shows.{Answers};
-ghost use Rattle.wblock_show.specs.Json.{IsJsonOf, IsLineOf, IsTold, TellsBlock, TellsFileBlock, TellsIt, TellsModuleJson, TellsNamed, TellsWorldJson};
+ghost use Rattle.wblock_show.specs.Json.{IsJsonOf, IsTold, TellsBlock, TellsFileBlock, TellsIt, TellsJson, TellsModuleJson, TellsNamed, TellsWorldJson};
 ghost use Rattle.wblock_show.specs.Lines.{calls_of};
 ghost use Rattle.wblock_show.specs.Shows.{known, HasFew, IsNextFile};
 
@@ -23,19 +24,10 @@ use std::alloc::{AllocError, Global};
 use typing::valid::Valid;
 use wblock_contents::{Kind, unknown_answer};
 use wblock_io::Files;
-use wblock_json::{block_json, module_json, world_json};
-use wblock_line::{Answer, Fault, Stop, judge_world, read_file, read_valid};
+use wblock_json::{block_json, line_of, module_json, world_json};
+use wblock_line::{Answer, Fault, Stop, in_form, judge_world, read_file, read_valid};
 use world::World;
 use wtypes::NoMemory;
-
-/// A text with a newline at its end.
-fn line_of(text: String) -> Result<String, AllocError>
-    ensures { IfOk result (λ line. string_bytes line ≡ string_bytes text ++ 10 ∷ []) }
-{
-    let mut line = text;
-    line.push_str("\n")?;
-    Ok(line)
-}
 
 // ---- blocks
 
@@ -214,9 +206,9 @@ fn tell_bytes<'a>(alloc: Global, signed: bool, bytes: &[u8]) -> Result<Answer<'a
     }
 }
 
-/// What `show --json` comes to: one JSON object, on a line, of what is in the module, the world or the block of a file, or why it is refused, by
-/// the lines of [`crate::show_named`]; where a file of calls is named, of the block with its calls. No file is written.
-pub fn json_named<'a, F: Files>(
+/// What is told of the module, the world or the block of a file, or why it is refused, by a line; where a file of calls is named, of the block with
+/// its calls. No file is written.
+fn plain_named<'a, F: Files>(
     alloc: Global,
     files: &mut F,
     task: Showing<'a>,
@@ -234,5 +226,24 @@ pub fn json_named<'a, F: Files>(
     match tell_bytes(alloc, task.signed, bytes.as_slice()) {
         Ok(answer) => Ok(answer),
         Err(NoMemory) => Err(Fault::NoMemory),
+    }
+}
+
+/// What `show --json` comes to: one JSON object, on a line, of what is in the module, the world or the block of a file, or of why it is refused; where a
+/// file of calls is named, of the block with its calls. No file is written.
+pub fn json_named<'a, F: Files>(
+    alloc: Global,
+    files: &mut F,
+    task: Showing<'a>,
+) -> Result<Answer<'a>, Fault<'a>>
+    ensures answers { IfOk result (λ a. IsTrue F.tells → TellsJson (F.holds files.old) task.entry a) }
+    ensures kept { IsTrue F.tells → F.holds files.new ≡ F.holds files.old }
+    ensures calm { OnOk result (F.failures files.new ≡ F.failures files.old) }
+    ensures counted { IfErr result (λ f. CountsFault f (F.failures files.old) (F.failures files.new)) }
+    ensures next { IfErr result (IsOfFile (λ name. IsTrue F.tells → IsNextFile (F.holds files.old) task.entry name)) }
+{
+    match plain_named(alloc, files, task) {
+        Ok(plain) => in_form(alloc, true, plain),
+        Err(fault) => Err(fault),
     }
 }

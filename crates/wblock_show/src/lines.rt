@@ -3,11 +3,11 @@
 ghost use Rattle.std.specs.Prelude.{◌≡◌, ◌≤◌, ◌<◌, ◌^◌, IfOk, length, string_bytes};
 ghost use Rattle.wblock_show.specs.Lines.{args_text, block_text, call_text, called_text, calls_of, chain_line, chain_lines, digest_line, entries_text, entry_text, fuel_line, head_lines, kind_text, more_entries, no_chain_lines, outcome_lines, position_line, position_lines, ratio_line, ratio_text, shared_line, shared_lines, version_line, wave_text, waves_line};
 
-use block::{Block, Position};
+use block::{Block, Position, number_of_version};
 use call::Call;
 use figures::{
     Chains, Figures, OutcomeCount, OutcomeKind, SharedLock, hundredth_of, lock_text_of,
-    number_of_version, word_of_mode,
+    word_of_mode,
 };
 use spec_ledger::Entry;
 use std::alloc::{AllocError, Global};

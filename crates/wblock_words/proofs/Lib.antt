@@ -1,1 +1,3 @@
-pub mod Beginning
+mod Fronts
+mod Sections
+mod Maps

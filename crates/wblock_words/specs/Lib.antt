@@ -1,2 +1,4 @@
 pub mod Sentences
 pub mod Rows
+pub mod Names
+pub mod Parts

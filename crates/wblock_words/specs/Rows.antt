@@ -1,7 +1,8 @@
 -- Rows of places and of what sentences begin with, computed.
 use Rattle.std.specs.Prelude.{◌≡◌, [], ◌∷◌, codes, refl, Some, None}
 use Rattle.std.specs.Fmt.{digits}
-use Rattle.wblock_words.specs.Sentences.{Begins, broken_place, line_of, column_of}
+use Rattle.wblock_calls.specs.Sentences.{Begins}
+use Rattle.wblock_words.specs.Sentences.{broken_place, line_of, column_of}
 
 -- "ab", a newline, "c"
 pub row_line : line_of (97 ∷ 98 ∷ 10 ∷ 99 ∷ []) ≡ 2

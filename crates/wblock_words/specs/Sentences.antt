@@ -1,14 +1,10 @@
 -- What sentences begin with.
-use Rattle.std.specs.Prelude.{◌≡◌, ℕ, ◌+◌, List, ◌++◌, ◌==◌, not, Option, Some, None, codes, count_by, decimal, length, reverse, take_while}
-use Rattle.world.specs.declared.read.ReadRefusal.{ReadRefusal}
-use Rattle.world.specs.declared.read.ReadRefusal.TheVariants as world
-use Rattle.block.specs.declared.refusal.BlockRefusal.{BlockRefusal}
-use Rattle.block.specs.declared.refusal.BlockRefusal.TheVariants as block
-
--- the sentence begins with these words
-pub record Begins (words sentence : List ℕ) : Type 0 where
-  pub rest : List ℕ
-  pub is : sentence ≡ words ++ rest
+use Rattle.std.specs.Prelude.{ℕ, ◌+◌, List, ◌++◌, ◌==◌, not, Option, Some, None, codes, count_by, decimal, length, reverse, take_while}
+use Rattle.wblock_calls.specs.Sentences.{Begins}
+use Rattle.records.specs.declared.refusal.ReadRefusal.{ReadRefusal}
+use Rattle.records.specs.declared.refusal.ReadRefusal.TheVariants as world
+use Rattle.records.specs.declared.refusal.BlockRefusal.{BlockRefusal}
+use Rattle.records.specs.declared.refusal.BlockRefusal.TheVariants as block
 
 -- the line behind these characters of a text, from 1
 abbrev pub line_of : List ℕ → ℕ

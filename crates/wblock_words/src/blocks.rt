@@ -4,11 +4,10 @@ ghost use Rattle.std.specs.Prelude.{IfOk, string_bytes};
 ghost use Rattle.wblock_words.specs.Sentences.{TellsBlock};
 
 use crate::files::kind_of;
-use crate::places::place_line;
-use block::BlockRefusal;
-use records::{Fault, read_position, read_receipt, read_u32};
+use records::{BlockRefusal, Fault, read_position, read_receipt, read_u32};
 use spec_ledger::Version;
 use std::alloc::{AllocError, Global};
+use wblock_calls::place_line;
 
 /// What to do about a block that is rejected for the reason of this number.
 pub fn advice_on(reason: u8) -> &'static str {

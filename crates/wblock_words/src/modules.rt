@@ -1,13 +1,14 @@
 //! Modules in binary that are refused.
 
 ghost use Rattle.std.specs.Prelude.{◌++◌, IfOk, codes, decimal, string_bytes};
-ghost use Rattle.wblock_words.specs.Sentences.{Begins, broken_place};
+ghost use Rattle.wblock_calls.specs.Sentences.{Begins};
+ghost use Rattle.wblock_words.specs.Sentences.{broken_place};
 
 use crate::extensions::{FLOATS, extension_at};
-use crate::places::{place_line, shown};
 use body_typing::rule::Rule;
 use module_tree::limit::Limit;
 use std::alloc::{AllocError, Global};
+use wblock_calls::{place_line, shown};
 
 /// What to do where a limit is passed.
 fn limit_advice(limit: Limit) -> &'static str {
@@ -86,7 +87,7 @@ fn function_fault(
     }
 }
 
-/// The sentence of a module that breaks this rule, in this function, imports counted first, which is exported by this name; or outside
+/// The sentence of a module that breaks this rule, in this function, imports counted first, which has this name; or outside
 /// bodies. And at this instruction of it, or item of the list at fault.
 pub fn rule_words(
     alloc: Global,

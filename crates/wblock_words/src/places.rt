@@ -1,9 +1,7 @@
-//! Places in a text or in bytes, and words as they are shown.
+//! Places in a text.
 
-ghost use Rattle.std.specs.Prelude.{◌++◌, IfOk, decimal, string_bytes, ◌≡◌, ◌≤◌, ◌⊎◌, ◌==◌, not, codes, length, reverse, take_while};
-ghost use Rattle.wblock_words.specs.Sentences.{Begins, line_of, column_of};
-
-use std::alloc::{AllocError, Global};
+ghost use Rattle.std.specs.Prelude.{◌≡◌, ◌==◌, not, length, reverse, take_while};
+ghost use Rattle.wblock_words.specs.Sentences.{line_of, column_of};
 
 /// A place in a text, as people count: lines and columns from 1, columns in bytes.
 #[derive(Clone, Copy, Debug, PartialEq, Eq)]
@@ -32,27 +30,4 @@ pub fn place_of(before: &str) -> LineColumn
         line: newlines + 1,
         column: behind_newline(bytes) + 1,
     }
-}
-
-/// A word as it is shown: dots stand for one that is longer than 60 bytes or has control characters.
-pub fn shown(word: &str) -> &str
-    ensures word { (result.now ≡ word.now) ⊎ (result.now ≡ codes "..") }
-    ensures short { length result.now ≤ 60 }
-{
-    if word.len() > 60 || word.bytes().any(|b| b < b' ' || b == 127) {
-        return "..";
-    }
-    word
-}
-
-/// A sentence: what it speaks of, by its name and number, and what is said of it.
-pub fn place_line(
-    alloc: Global,
-    name: &str,
-    number: usize,
-    said: &str,
-) -> Result<String, AllocError>
-    ensures { IfOk result (λ s. Begins (name.now ++ decimal number) (string_bytes s)) }
-{
-    format!(in alloc; "{name}{number}{said}")
 }

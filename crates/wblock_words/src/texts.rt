@@ -1,10 +1,11 @@
 //! Modules in text that are refused.
 
 use crate::modules::limit_words;
-use crate::places::{place_of, shown};
+use crate::places::place_of;
 use lexer::LexRefusal;
 use std::alloc::{AllocError, Global};
 use text_resolve::AsmRefusal;
+use wblock_calls::shown;
 
 /// Whether a character ends a word.
 fn is_end(c: char) -> bool {

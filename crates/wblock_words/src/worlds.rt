@@ -4,10 +4,9 @@ ghost use Rattle.std.specs.Prelude.{IfOk, string_bytes};
 ghost use Rattle.wblock_words.specs.Sentences.{TellsWorld};
 
 use crate::files::kind_of;
-use crate::places::place_line;
-use records::{read_u32, read_u64};
+use records::{ReadRefusal, read_u32, read_u64};
 use std::alloc::{AllocError, Global};
-use world::ReadRefusal;
+use wblock_calls::place_line;
 
 /// A field of a world.
 #[derive(Clone, Copy, Debug, PartialEq, Eq)]

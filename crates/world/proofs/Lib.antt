@@ -3,5 +3,7 @@ mod CellCounts
 mod Exact
 mod Judging
 mod Parts
+mod Spelled
 mod Storing
 mod Worlds
+pub mod Copies

@@ -16,12 +16,12 @@ use Rattle.world.specs.Cells.{Cell, IsNextCell, AreCellsOf, AreLists, AreNonZero
 
 -- ---- a list whose locks rise
 
-is_less : (o : Ordering) → is_lt o ≡ true → o ≡ Less
+pub is_less : (o : Ordering) → is_lt o ≡ true → o ≡ Less
 is_less Less e = refl
 is_less Equal e = absurd cc
 is_less Greater e = absurd cc
 
-so : (b : Bool) → b ≡ true → T b
+pub so : (b : Bool) → b ≡ true → T b
 so true e = tt
 so false e = absurd (cc e)
 
@@ -29,11 +29,11 @@ both : (a b : Bool) → T a → T b → T (a && b)
 both true b p q = q
 both false b p q = p
 
-first : (a b : Bool) → T (a && b) → a ≡ true
+pub first : (a b : Bool) → T (a && b) → a ≡ true
 first true b p = refl
 first false b p = absurd p
 
-second : (a b : Bool) → T (a && b) → T b
+pub second : (a b : Bool) → T (a && b) → T b
 second true b p = p
 second false b p = absurd p
 

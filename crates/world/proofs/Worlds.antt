@@ -1,5 +1,5 @@
 -- A world is its head, its contracts and its cells.
-use Rattle.std.proofs.Common.{◌≡◌, ◌≢◌, ℕ, ◌+◌, ◌*◌, ◌<◌, ◌≤◌, ◌⊎◌, ◌==◌, Bool, true, false, ltb, cond, List, [], ◌∷◌, ◌++◌, length, Ok, Err, refl, sym, ap, subst, ◌∙◌, append_assoc, append-nil, arith, inl, inr}
+use Rattle.std.proofs.Common.{◌≡◌, ◌≢◌, ℕ, ◌*◌, ◌<◌, ◌≤◌, ◌⊎◌, ◌==◌, Bool, true, false, ltb, cond, List, [], ◌∷◌, ◌++◌, length, Ok, Err, refl, sym, ap, subst, ◌∙◌, append_assoc, append-nil, arith, inl, inr}
 use Rattle.std.specs.Int.{w32, to_le_bytes}
 use Rattle.std.specs.List.{flat_map, AllByRecursion}
 use Rattle.std.proofs.lemmas.Bool.{le-ltb, ltb-false, eqb-true}
@@ -7,7 +7,7 @@ use Rattle.std.proofs.lemmas.List.{length-append, nil_from_length}
 use Rattle.spec_typing.specs.Laws.{IsResolvedOnce}
 use Rattle.spec_ledger.specs.Cells.{Cells}
 use Rattle.spec_block.specs.Worlds.{Contract, World}
-use Rattle.spec_block.specs.Bytes.{contract_bytes, counted, cells_bytes, is_map, is_counter, world_bytes, IsTree, IsWorld, SpellsWorld}
+use Rattle.spec_block.specs.Bytes.{contract_bytes, cells_bytes, is_map, is_counter, world_bytes, IsTree, IsWorld, SpellsWorld}
 use Rattle.spec_block.proofs.OneWorld.{TreesAreUnique, contract_code}
 use Rattle.records.specs.declared.fault.Fault.{Fault}
 use Rattle.records.specs.declared.fault.Fault.TheVariants.{Malformed, TooLarge, NoMemory}

@@ -1,3 +1,4 @@
+pub mod Kept
 pub mod Views
 pub mod Cells
 pub mod Reading

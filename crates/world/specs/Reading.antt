@@ -3,7 +3,7 @@
 use Rattle.std.specs.Prelude.{◌≡◌, ◌≢◌, ℕ, ◌*◌, ◌-◌, ◌<◌, List, [], ◌++◌, length, take, drop, Ok, Err, nat_lt, if◌then◌else◌}
 use Rattle.std.specs.Int.{w32}
 use Rattle.std.specs.List.{flat_map, AllByRecursion}
-use Rattle.spec_binary.specs.Shortest.{shortest}
+use Rattle.spec_modules.specs.Shortest.{shortest}
 use Rattle.spec_block.specs.Worlds.{Contract, World}
 use Rattle.spec_block.specs.Bytes.{contract_bytes, IsTree, SpellsWorld}
 use Rattle.records.specs.declared.fault.Fault.{Fault}
@@ -11,8 +11,8 @@ use Rattle.records.specs.declared.fault.Fault.TheVariants.{Malformed, TooLarge, 
 use Rattle.records.specs.Reading.{Read, ◌>>=◌, Fails, number_at, tag_at}
 use Rattle.world.specs.Cells.{lists_at, AreStored, stored_bytes}
 use Rattle.spec_ledger.specs.Cells.{Cells}
-use Rattle.world.specs.declared.read.ReadRefusal.{ReadRefusal}
-use Rattle.world.specs.declared.read.ReadRefusal.TheVariants as refusal
+use Rattle.records.specs.declared.refusal.ReadRefusal.{ReadRefusal}
+use Rattle.records.specs.declared.refusal.ReadRefusal.TheVariants as refusal
 
 -- ---- contracts
 

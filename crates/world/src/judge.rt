@@ -1,8 +1,8 @@
 //! The contract whose shortest spelling bytes are.
 
 ghost use Rattle.std.specs.Prelude.{◌≡◌, ◌≢◌, ◌↔◌, IfOk, OnOk, IsTrue, MatchOption};
-ghost use Rattle.spec_binary.specs.Shortest.{shortest};
-ghost use Rattle.spec_binary.specs.Spells.{Spells};
+ghost use Rattle.spec_modules.specs.Shortest.{shortest};
+ghost use Rattle.spec_modules.specs.Spells.{Spells};
 ghost use Rattle.module_tree.specs.Modules.{module_view};
 ghost use Rattle.typing.specs.Parts as typed;
 ghost use Rattle.link.specs.Parts.{tree_of};

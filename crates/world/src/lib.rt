@@ -1,6 +1,7 @@
 //! Worlds, which are contracts and cells, and their bytes.
 #![tactic(auto)]
 
+mod after;
 mod cell;
 mod cells;
 mod contracts;
@@ -11,7 +12,9 @@ mod store;
 mod value;
 mod write;
 
+pub use after::{copied, world_after};
 pub use cells::read_cells;
-pub use read::{ReadRefusal, read_world};
+pub use read::read_world;
+pub use records::ReadRefusal;
 pub use value::World;
-pub use write::{digest_world, encode_world, write_world};
+pub use write::{digest_world, encode_world, is_kind, write_world};

@@ -4,31 +4,14 @@ ghost use Rattle.std.specs.Prelude.{◌≡◌, ◌≤◌, ◌⊎◌, IfOk, IfErr
 ghost use Rattle.spec_block.specs.Bytes.{SpellsWorld};
 ghost use Rattle.records.specs.Reading.{Gives};
 ghost use Rattle.world.specs.Views.{contract_view, world_view};
-ghost use Rattle.world.specs.declared.read.ReadRefusal.TheVariants.{NoMemory};
+ghost use Rattle.records.specs.declared.refusal.ReadRefusal.TheVariants.{NoMemory};
 ghost use Rattle.world.specs.Reading.{head_at, StandBehind, IsNoWorld, IsFirstFault, Refuses};
 
 use crate::contracts::contracts_of;
 use crate::{World, read_cells};
 use link::deployed::Deployed;
-use records::{Fault, read_tag, read_u32};
+use records::{Fault, ReadRefusal, read_tag, read_u32};
 use std::alloc::Allocator;
-use thiserror::Error;
-
-/// Why bytes gave no world. Reading goes from front to back, and the first fault is answered.
-#[derive(Clone, Copy, Debug, PartialEq, Eq, Error)]
-pub enum ReadRefusal {
-    /// A field that begins at this byte cannot be, or ends past the input; or a count whose smallest items exceed the rest stands there; or
-    /// the length of a contract that does not load, is not valid, cannot be linked or is not in its shortest spelling; or it is the first
-    /// byte that is left over. A cell that does not rise is at fault at its contract if that falls, else at its key.
-    #[error("what begins at byte {0} spells no world")]
-    Malformed(usize),
-    /// There are more than 1,024 contracts.
-    #[error("there are more than 1,024 contracts")]
-    TooLarge,
-    /// Memory was refused.
-    #[error("memory was refused")]
-    NoMemory,
-}
 
 /// The magic, `57 42 57 44`, as a number.
 const MAGIC: u32 = 0x4457_4257;

@@ -10,8 +10,7 @@ ghost use Rattle.spec_block.specs.Bytes.{counted, contract_bytes, cell_bytes, ce
 ghost use Rattle.world.specs.Views.{contract_view, world_view, is_of, is_cell_of};
 
 use crate::value::World;
-use block::WriteRefusal;
-use byte_sinks::{Sink, put_all};
+use byte_sinks::{Sink, WriteRefusal, put_all};
 use link::deployed::Deployed;
 use records::{append_u32, append_u64};
 use sha2::{Digest, Sha256};
@@ -61,7 +60,8 @@ fn append_contracts<A: Allocator + Copy>(
     Ok(())
 }
 
-fn is_kind(a: Kind, b: Kind) -> bool
+/// Whether these are one kind of locks.
+pub fn is_kind(a: Kind, b: Kind) -> bool
     ensures { result ≡ is_of a b }
 {
     matches!(
@@ -177,10 +177,13 @@ pub fn write_world<A: Allocator + Copy, S: Sink>(
     }
 }
 
-/// SHA-256 of a world's bytes.
+/// SHA-256 of a world's bytes: the one that the world keeps, or else it is made.
 pub fn digest_world<A: Allocator + Copy>(alloc: A, world: &World<A>) -> Result<[u8; 32], NoMemory>
     ensures { IfOk result (λ digest. digest ≡ sha256 (world_bytes (world_view world.now))) }
 {
+    if let Some(digest) = world.kept_digest() {
+        return Ok(digest);
+    }
     let mut bytes = Vec::new(alloc);
     append_world(alloc, &mut bytes, world)?;
     Ok(Sha256::digest(bytes.as_slice()))

@@ -1,6 +1,6 @@
 use Rattle.std.proofs.Common.{◌≡◌, ℕ, ◌*◌, sym, ap, ◌∙◌, subst, ◌≤◌, IfOk}
 use Rattle.std.specs.Prelude.{map, None}
-use Rattle.spec_syntax.specs.Profile.{page_size, page_limit}
+use Rattle.spec_modules.specs.Profile.{page_size, page_limit}
 use Rattle.module_tree.specs.ModuleView.{limits_view}
 use Rattle.module_tree.specs.Modules.{module_view}
 use Rattle.memory.specs.Start.{stands, first_bytes}

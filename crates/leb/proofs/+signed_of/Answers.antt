@@ -1,6 +1,6 @@
 use Rattle.std.proofs.Common.{◌≡◌, ℕ, ◌+◌, ◌-◌, ◌<◌, ◌≤◌, ◌^◌, arith, rules, pos, neg_ℤ, ◌≤ℤ◌, ◌<ℤ◌, ◌+ℤ◌, ◌-ℤ◌, ◌*ℤ◌, to_z, of_z, w64}
 use Rattle.std.proofs.lemmas.Int.{ints}
-use Rattle.spec_binary.specs.Reading.{signed_at}
+use Rattle.spec_modules.specs.Reading.{signed_at}
 use Rattle.leb.proofs.Powers.{half_at_least_64, half_less, half_at_most}
 use Rattle.leb.proofs.+signed_of.Goals as goal
 

@@ -1,5 +1,5 @@
 use Rattle.std.proofs.Common.{ℕ, ◌+◌, ◌-◌, ◌*◌, ◌<◌, ◌^◌, arith, rules}
-use Rattle.spec_binary.specs.Reading.{unsigned_at}
+use Rattle.spec_modules.specs.Reading.{unsigned_at}
 use Rattle.leb.proofs.Powers.{seven_below, step_below, at_most_64}
 use Rattle.leb.proofs.+unsigned_of.Goals as goal
 

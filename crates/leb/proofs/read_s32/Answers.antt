@@ -1,9 +1,9 @@
 use Rattle.std.proofs.Common.{◌≡◌, drop, None, sym, ap, ◌∙◌, arith, to_z, of_z, w32, w64}
 use Rattle.std.proofs.lemmas.Int.{ints}
 use Rattle.std.proofs.lemmas.Option.{none-some}
-use Rattle.spec_binary.specs.Leb.{signed}
-use Rattle.spec_binary.specs.Reading.{signed_at}
-use Rattle.spec_binary.specs.NumberLaws.{signed_takes, signed_again}
+use Rattle.spec_modules.specs.Leb.{signed}
+use Rattle.spec_modules.specs.Reading.{signed_at}
+use Rattle.spec_modules.specs.NumberLaws.{signed_takes, signed_again}
 use Rattle.leb.proofs.Places.{found_at, from_on, no_signed_past}
 use Rattle.leb.proofs.read_s32.Goals as goal
 

@@ -1,8 +1,8 @@
 use Rattle.std.proofs.Common.{◌≡◌, drop, None, sym, ap, ◌∙◌, arith}
 use Rattle.std.proofs.lemmas.Option.{none-some}
-use Rattle.spec_binary.specs.Leb.{unsigned}
-use Rattle.spec_binary.specs.Reading.{unsigned_at}
-use Rattle.spec_binary.specs.NumberLaws.{unsigned_takes, unsigned_again}
+use Rattle.spec_modules.specs.Leb.{unsigned}
+use Rattle.spec_modules.specs.Reading.{unsigned_at}
+use Rattle.spec_modules.specs.NumberLaws.{unsigned_takes, unsigned_again}
 use Rattle.leb.proofs.Places.{found_at, from_on, no_unsigned_past}
 use Rattle.leb.proofs.read_u32.Goals as goal
 

@@ -1,7 +1,7 @@
 use Rattle.std.proofs.Common.{arith, rules}
 use Rattle.std.proofs.lemmas.Int.{ints}
-use Rattle.spec_binary.specs.Shortest.{s64_bytes}
-use Rattle.spec_binary.specs.ShortestLaws.{shortest_signed}
+use Rattle.spec_modules.specs.Shortest.{s64_bytes}
+use Rattle.spec_modules.specs.ShortestLaws.{shortest_signed}
 use Rattle.leb.proofs.write_s64.Goals as goal
 
 pub returns-in-Err-clause-spelled : goal.returns-in-Err-clause-spelled

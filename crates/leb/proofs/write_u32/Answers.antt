@@ -1,6 +1,6 @@
 use Rattle.std.proofs.Common.{arith, rules}
-use Rattle.spec_binary.specs.Shortest.{u32_bytes}
-use Rattle.spec_binary.specs.ShortestLaws.{shortest_unsigned}
+use Rattle.spec_modules.specs.Shortest.{u32_bytes}
+use Rattle.spec_modules.specs.ShortestLaws.{shortest_unsigned}
 use Rattle.leb.proofs.write_u32.Goals as goal
 
 pub returns-in-Err-clause-spelled : goal.returns-in-Err-clause-spelled

@@ -4,8 +4,11 @@ use Rattle.serial.proofs.Ending.{may_end, ended, taken_back, executed_for}
 use Rattle.interp.specs.Callee.{setting_view}
 use Rattle.serial.proofs.execute.Goals as goal
 
-pub conclude-requires : goal.conclude-requires
-conclude-requires g c = may_end c.args.cells.now c.play.new.cells c.in_ok-finished.finished.trace c.in_ok-finished.inverses.items c.in_ok-finished.ensures.ok.done c.requires
+pub conclude-requires-clause-unsettled : goal.conclude-requires-clause-unsettled
+conclude-requires-clause-unsettled g c = may_end c.args.cells.now c.play.new.cells c.in_ok-finished.finished.trace c.in_ok-finished.inverses.items c.in_ok-finished.ensures.ok.done c.requires
+
+pub conclude-requires-clause-alone : goal.conclude-requires-clause-alone
+conclude-requires-clause-alone g c = ended c.args.cells.now c.play.new.cells c.in_ok-finished.finished.trace c.in_ok-finished.inverses.items c.in_ok-finished.ensures.ok.done c.requires
 
 pub returns-clause-executed : goal.returns-clause-executed
 returns-clause-executed g c =

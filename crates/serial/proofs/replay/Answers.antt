@@ -2,8 +2,11 @@ use Rattle.std.proofs.Common.{◌∙◌}
 use Rattle.serial.proofs.Ending.{may_end, ended, taken_back, on_err}
 use Rattle.serial.proofs.replay.Goals as goal
 
-pub conclude-requires : goal.conclude-requires
-conclude-requires g c = let some = c.act_again.ensures.some in may_end c.args.cells.now c.act_again.new.cells some.trace c.act_again.new.inverses.items some.done c.requires
+pub conclude-requires-clause-unsettled : goal.conclude-requires-clause-unsettled
+conclude-requires-clause-unsettled g c = let some = c.act_again.ensures.some in may_end c.args.cells.now c.act_again.new.cells some.trace c.act_again.new.inverses.items some.done c.requires
+
+pub conclude-requires-clause-alone : goal.conclude-requires-clause-alone
+conclude-requires-clause-alone g c = let some = c.act_again.ensures.some in ended c.args.cells.now c.act_again.new.cells some.trace c.act_again.new.inverses.items some.done c.requires
 
 pub end_all-requires : goal.end_all-requires
 end_all-requires g c = let some = c.act_again.ensures.some in may_end c.args.cells.now c.act_again.new.cells some.trace c.act_again.new.inverses.items some.done c.requires

@@ -1,4 +1,4 @@
-use Rattle.std.proofs.Common.{Some, rules}
+use Rattle.std.proofs.Common.{◌-◌, Some, rules}
 use Rattle.std.specs.BTreeMap.Entry.{map_with_value}
 use Rattle.spec_ledger.specs.Cells.{counter}
 use Rattle.storage.specs.declared.Slot.{Slot}
@@ -16,9 +16,18 @@ pub returns-clause-counts : goal.returns-clause-counts
 returns-clause-counts g c =
     let slot = c.or_insert-slot.result.now in
     let next : Slot = record { cell = Some c.args.value; unsettled = slot.unsettled } in
-    let written = counts_written c.args.slots.now (map_with_value c.in_ok-slots.field-0 next) c.args.lock (Some next) (c.in_ok-slots.ensures.update.0 next).0 in
-    let kept = same_cells (counts_in c.args.slots.now.entries) (counts_in (map_with_value c.in_ok-slots.field-0 next).entries) c.args.lock (counter slot.unsettled) written
-    (slot_count c.args.slots.now c.args.lock _ slot c.or_insert-slot.ensures.value c.in_ok-slots.ensures.value) in
+    let written = counts_written c.args.slots.now (map_with_value c.in_ok-slots.field-0 next) c.args.lock (Some next) (c.in_ok-slots.ensures.update.0 next).0 c.args._floor in
+    let kept = same_cells (counts_in c.args._floor c.args.slots.now.entries) (counts_in c.args._floor (map_with_value c.in_ok-slots.field-0 next).entries) c.args.lock (counter (slot.unsettled - c.args._floor)) written
+    (slot_count c.args.slots.now c.args.lock _ slot c.or_insert-slot.ensures.value c.in_ok-slots.ensures.value c.args._floor) in
+    search (rules, kept)
+
+pub returns-clause-tops : goal.returns-clause-tops
+returns-clause-tops g c =
+    let slot = c.or_insert-slot.result.now in
+    let next : Slot = record { cell = Some c.args.value; unsettled = slot.unsettled } in
+    let written = counts_written c.args.slots.now (map_with_value c.in_ok-slots.field-0 next) c.args.lock (Some next) (c.in_ok-slots.ensures.update.0 next).0 c.args._top in
+    let kept = same_cells (counts_in c.args._top c.args.slots.now.entries) (counts_in c.args._top (map_with_value c.in_ok-slots.field-0 next).entries) c.args.lock (counter (slot.unsettled - c.args._top)) written
+    (slot_count c.args.slots.now c.args.lock _ slot c.or_insert-slot.ensures.value c.in_ok-slots.ensures.value c.args._top) in
     search (rules, kept)
 
 pub returns-clause-types : goal.returns-clause-types

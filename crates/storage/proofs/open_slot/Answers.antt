@@ -1,21 +1,26 @@
-use Rattle.std.proofs.Common.{◌+◌, Some, refl, rules}
+use Rattle.std.proofs.Common.{◌≡◌, ◌+◌, Some, rules, ◌∙◌, arith}
 use Rattle.std.specs.BTreeMap.Entry.{map_with_value}
+use Rattle.std.specs.FinMap.{empty}
 use Rattle.spec_ledger.specs.Cells.{cell_after}
 use Rattle.storage.specs.declared.Slot.{Slot}
-use Rattle.storage.specs.Slots.{cells_in}
-use Rattle.storage.proofs.Slots.{slot_cell, cells_changed, counts_changed, cells_kept, counts_kept, cells_written, types_written}
+use Rattle.storage.specs.Slots.{cells_in, counts_in}
+use Rattle.storage.proofs.Slots.{slot_cell, cells_changed, counts_changed, cells_kept, counts_kept, cells_written, types_written, tops_higher, tops_written}
 use Rattle.storage.proofs.open_slot.Goals as goal
 
-pub returns-then-slot-clause-cells_at_err : goal.returns-then-slot-clause-cells_at_err
-returns-then-slot-clause-cells_at_err g c =
-    let kept = cells_kept c.args.slots.now c.args.lock _ c.or_insert-slot.result.now c.or_insert-slot.ensures.value c.in_ok-slots.ensures.value (map_with_value c.in_ok-slots.field-0 c.or_insert-slot.result.now)
-    (c.in_ok-slots.ensures.update.0 c.or_insert-slot.result.now).0 in
+pub returns-in_default-clause-cells_at_err : goal.returns-in_default-clause-cells_at_err
+returns-in_default-clause-cells_at_err g c =
+    let kept = cells_kept c.args.slots.now c.args.lock _ c.or_insert-slot.result.now c.or_insert-slot.ensures.value c.in_ok-slots.ensures.value (map_with_value c.in_ok-slots.field-0 c.or_insert-slot.result.now) (c.in_ok-slots.ensures.update.0 c.or_insert-slot.result.now).0 in
     search (rules, kept)
 
-pub returns-then-slot-clause-counts_at_err : goal.returns-then-slot-clause-counts_at_err
-returns-then-slot-clause-counts_at_err g c =
-    let kept = counts_kept c.args.slots.now c.args.lock _ c.or_insert-slot.result.now c.or_insert-slot.ensures.value c.in_ok-slots.ensures.value (map_with_value c.in_ok-slots.field-0 c.or_insert-slot.result.now)
-    (c.in_ok-slots.ensures.update.0 c.or_insert-slot.result.now).0 in
+pub returns-in_default-clause-counts_at_err : goal.returns-in_default-clause-counts_at_err
+returns-in_default-clause-counts_at_err g c =
+    let kept = counts_kept c.args.slots.now c.args.lock _ c.or_insert-slot.result.now c.or_insert-slot.ensures.value c.in_ok-slots.ensures.value (map_with_value c.in_ok-slots.field-0 c.or_insert-slot.result.now) (c.in_ok-slots.ensures.update.0 c.or_insert-slot.result.now).0 c.args.floor in
+    search (rules, kept)
+
+pub returns-in_default-clause-below_at_err : goal.returns-in_default-clause-below_at_err
+returns-in_default-clause-below_at_err g c =
+    let kept : counts_in c.args.top (map_with_value c.in_ok-slots.field-0 c.or_insert-slot.result.now).entries ≡ empty =
+    counts_kept c.args.slots.now c.args.lock _ c.or_insert-slot.result.now c.or_insert-slot.ensures.value c.in_ok-slots.ensures.value (map_with_value c.in_ok-slots.field-0 c.or_insert-slot.result.now) (c.in_ok-slots.ensures.update.0 c.or_insert-slot.result.now).0 c.args.top ∙ c.requires in
     search (rules, kept)
 
 pub returns-clause-before : goal.returns-clause-before
@@ -23,20 +28,26 @@ returns-clause-before g c = slot_cell c.args.slots.now c.args.lock _ c.or_insert
 
 pub returns-clause-cells : goal.returns-clause-cells
 returns-clause-cells g c =
-    let next : Slot = record { cell = c.next_cell-next.result; unsettled = c.or_insert-slot.result.now.unsettled + 1 } in
-    let changed = cells_changed c.args.slots.now c.args.lock _ c.or_insert-slot.result.now c.or_insert-slot.ensures.value c.in_ok-slots.ensures.value (map_with_value c.in_ok-slots.field-0 next) next
-    (c.in_ok-slots.ensures.update.0 next).0 (cell_after c.args.op) c.next_cell-next.ensures in
+    let next : Slot = record { cell = c.next_cell-next.result; unsettled = c.in-Some.number } in
+    let changed = cells_changed c.args.slots.now c.args.lock _ c.or_insert-slot.result.now c.or_insert-slot.ensures.value c.in_ok-slots.ensures.value (map_with_value c.in_ok-slots.field-0 next) next (c.in_ok-slots.ensures.update.0 next).0 (cell_after c.args.op) c.next_cell-next.ensures in
     search (rules, changed)
 
 pub returns-clause-counts : goal.returns-clause-counts
 returns-clause-counts g c =
-    let next : Slot = record { cell = c.next_cell-next.result; unsettled = c.or_insert-slot.result.now.unsettled + 1 } in
-    let changed = counts_changed c.args.slots.now c.args.lock _ c.or_insert-slot.result.now c.or_insert-slot.ensures.value c.in_ok-slots.ensures.value (map_with_value c.in_ok-slots.field-0 next) next
-    (c.in_ok-slots.ensures.update.0 next).0 (λ n. n + 1) refl in
+    let next : Slot = record { cell = c.next_cell-next.result; unsettled = c.in-Some.number } in
+    let changed = counts_changed c.args.slots.now c.args.lock _ c.or_insert-slot.result.now c.or_insert-slot.ensures.value c.in_ok-slots.ensures.value (map_with_value c.in_ok-slots.field-0 next) next (c.in_ok-slots.ensures.update.0 next).0 c.args.floor (λ n. n + 1) c.in-Some.ensures in
     search (rules, changed)
+
+pub returns-clause-below : goal.returns-clause-below
+returns-clause-below g c =
+    let next : Slot = record { cell = c.next_cell-next.result; unsettled = c.in-Some.number } in
+    let made : counts_in c.higher.result (map_with_value c.in_ok-slots.field-0 next).entries ≡ empty =
+    tops_written c.args.slots.now (map_with_value c.in_ok-slots.field-0 next) c.args.lock next (c.in_ok-slots.ensures.update.0 next).0 c.higher.result (omega (arith, c.higher.ensures))
+    (tops_higher c.args.slots.now.entries c.args.top c.higher.result (omega (arith, c.higher.ensures)) c.requires) in
+    search (rules, made)
 
 pub returns-clause-types : goal.returns-clause-types
 returns-clause-types g c =
-    let next : Slot = record { cell = c.next_cell-next.result; unsettled = c.or_insert-slot.result.now.unsettled + 1 } in
+    let next : Slot = record { cell = c.next_cell-next.result; unsettled = c.in-Some.number } in
     let written = cells_written c.args.slots.now (map_with_value c.in_ok-slots.field-0 next) c.args.lock (Some next) (c.in_ok-slots.ensures.update.0 next).0 in
     types_written (cells_in c.args.slots.now.entries) _ c.args.lock next.cell (search (rules, written)) c.note_types.ensures

@@ -1,9 +1,17 @@
+use Rattle.spec_block.specs.Verdicts.{IsVerdictOf}
 use Rattle.world.specs.Views.{world_view}
 use Rattle.validator.specs.Judged.{verdict_view}
+use Rattle.validator.proofs.Fits.{told_first}
 use Rattle.validator.proofs.find_verdict.Goals as goal
 
 pub returns : goal.returns
 returns g c =
     record {
       verdict = c.first_is_verdict.ensures (world_view c.args.world.now) c.args.calls.now c.args.block_fuel c.args.bytes.now c.in-Ok.block (verdict_view c.in_ok-validated.validated.verdict) c.in-Ok.ensures.spelled c.in_ok-validated.ensures;
+    }
+
+pub returns-in-Err : goal.returns-in-Err
+returns-in-Err g c =
+    record {
+      verdict = told_first c.in-Err.unfit c.verdict_on.result (IsVerdictOf (world_view c.args.world.now) c.args.calls.now c.args.block_fuel c.args.bytes.now) c.verdict_on.ensures c.in-Err.ensures.rejected;
     }

@@ -1,5 +1,5 @@
 use Rattle.std.proofs.Common.{◌≡◌, drop}
-use Rattle.spec_syntax.specs.Limits as limit
+use Rattle.spec_modules.specs.Limits as limit
 use Rattle.module_tree.specs.View.{instrs_view}
 use Rattle.assembler.proofs.builder_bodies.+fit.Given as goal
 

@@ -1,5 +1,5 @@
 use Rattle.std.proofs.Common.{◌≡◌, ◌<◌, length, get_or, arith, rules, true, false, nat_le}
-use Rattle.spec_syntax.specs.Shape.{instr_depth, instrs_depth}
+use Rattle.spec_modules.specs.Shape.{instr_depth, instrs_depth}
 use Rattle.module_tree.specs.View.{instr_view, instrs_view}
 use Rattle.assembler.proofs.Depths.{within_next, over_here}
 use Rattle.assembler.proofs.builder_bodies.+nest.Goals as goal

@@ -1,5 +1,5 @@
 use Rattle.std.proofs.Common.{◌≡◌, drop, nat_le}
-use Rattle.spec_syntax.specs.Shape.{instrs_depth}
+use Rattle.spec_modules.specs.Shape.{instrs_depth}
 use Rattle.module_tree.specs.View.{instrs_view}
 use Rattle.assembler.proofs.builder_bodies.+nest.Given as goal
 

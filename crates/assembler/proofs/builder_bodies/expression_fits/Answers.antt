@@ -1,7 +1,7 @@
 use Rattle.std.proofs.Common.{◌≡◌, ◌&&◌, true, false, nat_le, sym, ap, ◌∙◌}
-use Rattle.spec_syntax.specs.Shape.{instrs_depth}
-use Rattle.spec_syntax.specs.Profile.{nesting_limit}
-use Rattle.spec_syntax.specs.Limits.{expression_fits, instrs_fit}
+use Rattle.spec_modules.specs.Shape.{instrs_depth}
+use Rattle.spec_modules.specs.Profile.{nesting_limit}
+use Rattle.spec_modules.specs.Limits.{expression_fits, instrs_fit}
 use Rattle.module_tree.specs.View.{instrs_view}
 use Rattle.assembler.proofs.builder_bodies.expression_fits.Goals as goal
 

@@ -1,4 +1,4 @@
-use Rattle.intake.specs.Intakes.{IsSeatOf}
+use Rattle.book_workers.specs.Intakes.{IsSeatOf}
 use Rattle.bench.proofs.with_intake.draw_all.Given as goal
 
 abbrev pub invariant-loop : goal.invariant-loop

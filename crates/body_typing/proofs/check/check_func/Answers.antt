@@ -1,6 +1,6 @@
 use Rattle.std.proofs.Common.{map, ◌++◌, [], List, Option, Err, ap, sym, ◌∙◌}
 use Rattle.wtypes.specs.declared.ValType.{ValType}
-use Rattle.spec_syntax.specs.Syntax.{FuncType}
+use Rattle.spec_modules.specs.Syntax.{FuncType}
 use Rattle.spec_typing.specs.Typing.{Context, Typed, of}
 use Rattle.spec_typing.specs.Modules.{type_at, result_of}
 use Rattle.module_tree.specs.View.{instrs_view}

@@ -1,4 +1,4 @@
-use Rattle.serial.proofs.Replies.{is_reply}
+use Rattle.spec_execution.proofs.Replies.{is_reply}
 use Rattle.book_workers.proofs.attempt.ask.Goals as goal
 
 pub returns-in-Ok : goal.returns-in-Ok

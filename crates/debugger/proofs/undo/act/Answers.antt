@@ -1,5 +1,5 @@
 use Rattle.std.proofs.Common.{sym, ◌∙◌}
-use Rattle.debugger.proofs.Replies.{is_reply}
+use Rattle.spec_execution.proofs.Replies.{is_reply}
 use Rattle.debugger.proofs.Undoing.{noted, not_noted, none_of}
 use Rattle.debugger.proofs.undo.act.Goals as goal
 

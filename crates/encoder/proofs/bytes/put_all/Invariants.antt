@@ -1,5 +1,5 @@
 use Rattle.std.proofs.Common.{◌≡◌, ◌++◌, take}
-use Rattle.spec_binary.specs.Shortest.{run_bytes}
+use Rattle.spec_modules.specs.Shortest.{run_bytes}
 use Rattle.encoder.proofs.bytes.put_all.Given as goal
 
 abbrev pub invariant-loop-item : goal.invariant-loop-item

@@ -1,5 +1,5 @@
 use Rattle.std.proofs.Common.{◌++◌, length, ap, ◌∙◌, sym, append_assoc, rules, ◌≡◌}
-use Rattle.spec_binary.specs.Shortest.{u32_bytes}
+use Rattle.spec_modules.specs.Shortest.{u32_bytes}
 use Rattle.encoder.proofs.Runs.{run_bytes-bytes}
 use Rattle.encoder.proofs.bytes.put_text.Goals as goal
 

@@ -1,7 +1,7 @@
 use Rattle.std.proofs.Common.{◌≡◌, ◌<◌, ◌++◌, length, get_or, arith, rules, ap, ◌∙◌, sym}
 use Rattle.std.proofs.lemmas.Result.{on_ok_weaker}
 use Rattle.std.proofs.lemmas.List.{take_all}
-use Rattle.spec_binary.specs.Shortest.{instr_bytes, run_bytes}
+use Rattle.spec_modules.specs.Shortest.{instr_bytes, run_bytes}
 use Rattle.module_tree.specs.View.{instr_view}
 use Rattle.encoder.proofs.Runs.{run_more, front_on, view_run, if_spelled}
 use Rattle.encoder.proofs.instrs.+put.Goals as goal

@@ -1,5 +1,5 @@
 use Rattle.std.proofs.Common.{◌≡◌, ◌++◌, take}
-use Rattle.spec_binary.specs.Shortest.{instr_bytes, run_bytes}
+use Rattle.spec_modules.specs.Shortest.{instr_bytes, run_bytes}
 use Rattle.module_tree.specs.View.{instr_view}
 use Rattle.encoder.proofs.instrs.+put.Given as goal
 

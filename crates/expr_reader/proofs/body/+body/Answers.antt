@@ -3,7 +3,7 @@ use Rattle.std.specs.Prelude.{◌==◌, ◌||◌}
 use Rattle.std.proofs.lemmas.Result.{err_from_is_err_and}
 use Rattle.laws_modules.specs.ReadingExpressions.{one_at, body_at}
 use Rattle.module_tree.specs.View.{ordinals}
-use Rattle.expr_reader.specs.Numbering.{numbered_none, numbered_push, numbered_Block, numbered_Loop, numbered_If}
+use Rattle.module_tree.specs.Numbering.{numbered_none, numbered_push, numbered_Block, numbered_Loop, numbered_If}
 use Rattle.expr_reader.proofs.Turns.{front_none, body_opens, at_end, at_fault, at_empty, at_more, hand_on, too_deep}
 use Rattle.std.proofs.lemmas.Bool.Decides.{nat_tests}
 use Rattle.expr_reader.proofs.body.+body.Goals.{body_of-then-first-eq11-via-then-first-eq11, body_of-then-first-eq11-via-else-first-eq11+then-first-eq5}

@@ -1,7 +1,7 @@
 use Rattle.std.proofs.Common.{◌≡◌, ℕ, ◌+◌, ◌-◌, ◌*◌, ◌≤◌, length}
 use Rattle.laws_modules.specs.ReadingExpressions.{one_at, body_at, seq_at}
 use Rattle.module_tree.specs.View.{ordinals}
-use Rattle.expr_reader.specs.Numbering.{Numbered}
+use Rattle.module_tree.specs.Numbering.{Numbered}
 use Rattle.expr_reader.proofs.Turns.{front}
 use Rattle.expr_reader.proofs.body.+body.Given as goal
 

@@ -1,6 +1,6 @@
 use Rattle.std.proofs.Common.{◌≡◌, ◌+◌, ◌-◌, ◌∷◌, ◌++◌, [], suc, arith, rules}
 use Rattle.std.proofs.lemmas.Result.{err_from_is_err_and}
-use Rattle.spec_binary.specs.Reading.{unsigned_at}
+use Rattle.spec_modules.specs.Reading.{unsigned_at}
 use Rattle.laws_modules.specs.ReadingExpressions.{items_at}
 use Rattle.expr_reader.proofs.Steps.{one_more, none_more, all_done}
 use Rattle.expr_reader.proofs.Turns.{hand_on}

@@ -1,5 +1,5 @@
 use Rattle.std.proofs.Common.{◌≡◌, ◌-◌, ◌≤◌, length}
-use Rattle.spec_binary.specs.Reading.{unsigned_at}
+use Rattle.spec_modules.specs.Reading.{unsigned_at}
 use Rattle.laws_modules.specs.ReadingExpressions.{items_at}
 use Rattle.expr_reader.proofs.Steps.{front}
 use Rattle.expr_reader.proofs.body.labels_of.Given as goal

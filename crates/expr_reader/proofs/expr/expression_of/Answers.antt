@@ -1,5 +1,5 @@
 use Rattle.module_tree.specs.View.{ordinals}
-use Rattle.expr_reader.specs.Numbering.{numbered_counts}
+use Rattle.module_tree.specs.Numbering.{numbered_counts}
 use Rattle.expr_reader.proofs.expr.expression_of.Goals as goal
 
 pub returns-clause-numbered : goal.returns-clause-numbered

@@ -1,8 +1,8 @@
 use Rattle.std.proofs.Common.{◌≡◌, arith, to_z, of_z, w32}
 use Rattle.std.proofs.lemmas.Int.{ints}
-use Rattle.spec_binary.specs.Leb.{signed}
-use Rattle.spec_binary.specs.Reading.{signed_at}
-use Rattle.spec_binary.specs.NumberLaws.{signed_takes, signed_again}
+use Rattle.spec_modules.specs.Leb.{signed}
+use Rattle.spec_modules.specs.Reading.{signed_at}
+use Rattle.spec_modules.specs.NumberLaws.{signed_takes, signed_again}
 use Rattle.expr_reader.proofs.Numbers.{found_is, none_is}
 use Rattle.expr_reader.proofs.read.s32_of.Goals as goal
 

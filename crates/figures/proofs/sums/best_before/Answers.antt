@@ -1,6 +1,7 @@
 use Rattle.std.proofs.Common.{inl, inr, subst}
 use Rattle.std.specs.BTreeMap.{get}
-use Rattle.figures.specs.Turns.{turn_cmp, IsBefore}
+use Rattle.lock_profile.specs.LockTurns.{turn_cmp}
+use Rattle.figures.specs.Turns.{IsBefore}
 use Rattle.figures.proofs.Steps.{best_more}
 use Rattle.figures.proofs.sums.best_before.Goals as goal
 use Rattle.figures.proofs.sums.best_before.Goals.{then-best-sum, else-best-sum}

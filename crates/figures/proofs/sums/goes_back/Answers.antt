@@ -1,7 +1,8 @@
 use Rattle.std.proofs.Common.{sym, refl, subst}
 use Rattle.std.specs.BTreeMap.{get}
 use Rattle.std.proofs.lemmas.List.{take_all}
-use Rattle.figures.specs.Turns.{turn_cmp, IsPast}
+use Rattle.lock_profile.specs.LockTurns.{turn_cmp}
+use Rattle.figures.specs.Turns.{IsPast}
 use Rattle.figures.proofs.Steps.{past_here, past_later}
 use Rattle.figures.proofs.sums.goes_back.Goals as goal
 

@@ -1,6 +1,7 @@
 use Rattle.std.proofs.Common.{take}
 use Rattle.std.specs.BTreeMap.{get}
-use Rattle.figures.specs.Turns.{turn_cmp, IsPast}
+use Rattle.lock_profile.specs.LockTurns.{turn_cmp}
+use Rattle.figures.specs.Turns.{IsPast}
 use Rattle.figures.proofs.sums.goes_back.Given as goal
 
 abbrev pub invariant-loop-entry : goal.invariant-loop-entry

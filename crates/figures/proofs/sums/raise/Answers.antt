@@ -3,7 +3,8 @@ use Rattle.std.specs.BTreeMap.{get}
 use Rattle.std.proofs.lemmas.List.{take_all}
 use Rattle.spec_ledger.specs.declared.Entry.{Entry}
 use Rattle.std.proofs.Common.{List}
-use Rattle.figures.specs.Turns.{turn_cmp, AreRaised, IsRaisedAt}
+use Rattle.lock_profile.specs.LockTurns.{turn_cmp}
+use Rattle.figures.specs.Turns.{AreRaised, IsRaisedAt}
 use Rattle.figures.proofs.Steps.{raised_more}
 use Rattle.figures.proofs.sums.raise.Goals as goal
 

@@ -2,9 +2,9 @@ use Rattle.std.proofs.Common.{◌≡◌, ℕ, ◌≤◌, cond, Some, None, sym, 
 use Rattle.std.specs.declared.cmp.Ordering.{Ordering}
 use Rattle.std.specs.BTreeMap.{get}
 use Rattle.std.specs.Ordering.{eq_by_cmp}
-use Rattle.figures.specs.declared.lock_turn.LockTurn.{LockTurn}
-use Rattle.figures.specs.Turns.{turn_cmp}
-use Rattle.figures.proofs.Places.{derived_is}
+use Rattle.lock_profile.specs.declared.lock_turn.LockTurn.{LockTurn}
+use Rattle.lock_profile.specs.LockTurns.{turn_cmp}
+use Rattle.lock_profile.proofs.Places.{derived_is}
 use Rattle.figures.proofs.Profiles.{some_is}
 use Rattle.figures.proofs.Steps.{raised_at}
 use Rattle.figures.proofs.sums.raise_at.Goals as goal

@@ -1,6 +1,6 @@
 use Rattle.std.proofs.Common.{sym}
 use Rattle.std.specs.BTreeMap.{get}
-use Rattle.figures.specs.Turns.{turn_cmp}
+use Rattle.lock_profile.specs.LockTurns.{turn_cmp}
 use Rattle.figures.proofs.Steps.{before_none, before_some}
 use Rattle.figures.proofs.sums.sum_before.Goals as goal
 

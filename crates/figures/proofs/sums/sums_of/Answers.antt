@@ -2,8 +2,9 @@ use Rattle.std.proofs.Common.{refl, sym, ◌∙◌, subst, arith, List}
 use Rattle.std.specs.BTreeMap.{get}
 use Rattle.spec_ledger.specs.declared.Entry.{Entry}
 use Rattle.lock_profile.specs.Turns.{IsProfile}
-use Rattle.figures.specs.Turns.{turn_cmp, IsPast}
-use Rattle.figures.specs.Chains.{lists_of}
+use Rattle.lock_profile.specs.LockTurns.{turn_cmp}
+use Rattle.figures.specs.Turns.{IsPast}
+use Rattle.spec_block.specs.Worlds.{profiles_in}
 use Rattle.figures.proofs.Tops.{all_forward, back, lists_long, position_there, sums_more, tops_more}
 use Rattle.figures.proofs.sums.sums_of.Goals as goal
 
@@ -11,7 +12,7 @@ pub returns-then-goes_back-clause-forward : goal.returns-then-goes_back-clause-f
 returns-then-goes_back-clause-forward c = (
   λ no. absurd (cc no),
   λ forward.
-      let profiles = lists_of c.args.positions.now in
+      let profiles = profiles_in c.args.positions.now in
       let n = c.loop-at.at in
       let es = c.entries-entries.result.now in
       let there = position_there c.args.positions.now n c.index-positions-at.result es c.loop-at-test.true c.index-positions-at.is (c.entries-entries.ensures ∙ c.profile-profile.ensures) in
@@ -21,7 +22,7 @@ returns-then-goes_back-clause-forward c = (
 
 pub loop-at-preserved : goal.loop-at-preserved
 loop-at-preserved c =
-    let profiles = lists_of c.args.positions.now in
+    let profiles = profiles_in c.args.positions.now in
     let n = c.loop-at.at in
     let es = c.entries-entries.result.now in
     let top = get turn_cmp c.loop-at.sums in
@@ -36,11 +37,11 @@ loop-at-preserved c =
 
 pub returns-clause-forward : goal.returns-clause-forward
 returns-clause-forward c = (
-  λ _. all_forward (lists_of c.args.positions.now) c.args.weights.now c.loop-at.list.items c.loop-at.at (let size = lists_long c.args.positions.now in let end = c.loop-at-test.false in omega (arith, size, end)) c.loop-at.invariant.0,
+  λ _. all_forward (profiles_in c.args.positions.now) c.args.weights.now c.loop-at.list.items c.loop-at.at (let size = lists_long c.args.positions.now in let end = c.loop-at-test.false in omega (arith, size, end)) c.loop-at.invariant.0,
   λ _. refl,
 )
 
 pub returns-clause-sums : goal.returns-clause-sums
 returns-clause-sums c = λ i lt.
-    let forward = all_forward (lists_of c.args.positions.now) c.args.weights.now c.loop-at.list.items c.loop-at.at (let size = lists_long c.args.positions.now in let end = c.loop-at-test.false in omega (arith, size, end)) c.loop-at.invariant.0 in
+    let forward = all_forward (profiles_in c.args.positions.now) c.args.weights.now c.loop-at.list.items c.loop-at.at (let size = lists_long c.args.positions.now in let end = c.loop-at-test.false in omega (arith, size, end)) c.loop-at.invariant.0 in
     c.loop-at.invariant.0.heavy forward i (let end = c.loop-at-test.false in let size = lists_long c.args.positions.now in omega (arith, lt, end, size))

@@ -1,7 +1,7 @@
 use Rattle.std.proofs.Common.{arith, refl, length}
 use Rattle.std.proofs.lemmas.Option.{slice_get_read}
 use Rattle.interp.specs.Callee.{setting_view}
-use Rattle.speculation.specs.Behind.{behind}
+use Rattle.serial.specs.Behind.{behind}
 use Rattle.in_order.proofs.Shares.{one_more_prepared}
 use Rattle.in_order.proofs.footprints.run_speculatively.Goals as goal
 

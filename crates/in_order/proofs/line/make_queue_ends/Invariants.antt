@@ -1,5 +1,5 @@
 use Rattle.std.proofs.Common.{All}
-use Rattle.typed_queue.specs.Passes.{IsPassOf}
+use Rattle.lanes.specs.Passes.{IsPassOf}
 use Rattle.in_order.specs.Handed.{IsQueueEndOf}
 use Rattle.in_order.proofs.line.make_queue_ends.Given as goal
 

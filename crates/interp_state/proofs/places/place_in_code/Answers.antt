@@ -1,7 +1,8 @@
 use Rattle.std.proofs.Common.{◌≡◌, ℕ, Some, sym, ap, ◌∙◌, option_map}
 use Rattle.interp_state.specs.declared.parts.Kind.{Kind}
 use Rattle.laws_reduction.specs.Branches.{in_call}
-use Rattle.interp_state.specs.Views.{opens_of, scope_of, ordinal_of, open_of}
+use Rattle.module_tree.specs.View.{ordinal_of}
+use Rattle.interp_state.specs.Views.{opens_of, scope_of, open_of}
 use Rattle.interp_state.specs.Innermost.{innermost, function_in, function_of}
 use Rattle.interp_state.proofs.Placing.{place_at, place_nowhere, function_there, no_function, no_frame}
 use Rattle.interp_state.proofs.places.place_in_code.Goals as goal

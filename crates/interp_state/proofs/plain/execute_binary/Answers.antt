@@ -1,5 +1,5 @@
 use Rattle.std.proofs.Common.{◌∙◌, sym, ap}
-use Rattle.spec_numeric.specs.Operators.{type_of}
+use Rattle.spec_modules.specs.Operators.{type_of}
 use Rattle.laws_reduction.specs.Plain.{at_once}
 use Rattle.laws_reduction.specs.Topmost.{two_popped, last_two}
 use Rattle.interp_state.proofs.Doing.{did_binary, fell_binary}

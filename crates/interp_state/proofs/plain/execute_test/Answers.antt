@@ -1,6 +1,6 @@
 use Rattle.std.proofs.Common.{◌∙◌, sym, ap}
 use Rattle.std.specs.Prelude.{◌++◌, ◌∷◌, []}
-use Rattle.spec_numeric.specs.Operators.{type_of}
+use Rattle.spec_modules.specs.Operators.{type_of}
 use Rattle.laws_reduction.specs.Plain.{at_once}
 use Rattle.laws_reduction.specs.Topmost.{last_one}
 use Rattle.interp_state.proofs.Doing.{did_test}

@@ -1,6 +1,6 @@
 use Rattle.std.proofs.Common.{◌≡◌, refl, sym, ap, ◌∙◌, subst, arith, Ok, Err, Some}
 use Rattle.std.specs.Prelude.{IsSome}
-use Rattle.spec_numeric.specs.Operators.{bits_of}
+use Rattle.spec_modules.specs.Operators.{bits_of}
 use Rattle.interp_state.specs.Callee.{contract_of}
 use Rattle.interp_state.specs.Elements.{element_called}
 use Rattle.interp_state.specs.Views.{view, items_of}

@@ -1,7 +1,7 @@
 use Rattle.std.proofs.Common.{◌≡◌, ℕ, refl, sym, ap, ◌∙◌, subst, arith, ◌∷◌, List, length, slice_get, drop}
 use Rattle.std.specs.Prelude.{unwrap_or}
-use Rattle.spec_syntax.specs.Syntax as syntax
-use Rattle.spec_numeric.specs.Operators.{bits_of}
+use Rattle.spec_modules.specs.Syntax as syntax
+use Rattle.spec_modules.specs.Operators.{bits_of}
 use Rattle.spec_execution.specs.Reduction.{arity}
 use Rattle.module_tree.specs.declared.instr.Instr.{Instr}
 use Rattle.module_tree.specs.View.{instrs_view}

@@ -1,7 +1,7 @@
 use Rattle.std.proofs.Common.{◌<◌, List, length, slice_get, arith, refl, sym, ap, ◌∙◌, subst, ◌∷◌, ◌++◌, []}
 use Rattle.wtypes.specs.declared.PlainInstr.{PlainInstr}
 use Rattle.wtypes.specs.declared.Value.{Value}
-use Rattle.spec_syntax.specs.Syntax.{Plain}
+use Rattle.spec_modules.specs.Syntax.{Plain}
 use Rattle.interp_state.specs.declared.parts.Parts.{Parts}
 use Rattle.interp_state.specs.Memories.{DidStore}
 use Rattle.interp_state.specs.Callee.{contract_of}

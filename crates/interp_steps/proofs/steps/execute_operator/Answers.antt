@@ -1,7 +1,7 @@
 use Rattle.std.proofs.Common.{◌≢◌, refl, sym, ap, ◌∙◌, arith, ◌∷◌}
 use Rattle.wtypes.specs.declared.PlainInstr.{PlainInstr}
-use Rattle.spec_syntax.specs.Syntax.{Plain}
-use Rattle.spec_numeric.specs.Operators.{bits_of}
+use Rattle.spec_modules.specs.Syntax.{Plain}
+use Rattle.spec_modules.specs.Operators.{bits_of}
 use Rattle.interp_state.specs.Callee.{contract_of}
 use Rattle.interp_state.specs.Views.{view, items_of}
 use Rattle.interp_steps.proofs.Controlling.{popped, br_target, br_charged, out_target, out_charged, br_if_choice, br_if_one, br_if_stays, free_target, free_charged}

@@ -12,7 +12,7 @@ use Rattle.interp_state.specs.Views.{view, items_of, opens_of}
 use Rattle.interp_state.specs.Numbering.{plain_item}
 use Rattle.interp_steps.specs.StraightLine.{Walks, none, IsSafeFor, IsFirst, PushesNext}
 use Rattle.wtypes.specs.declared.PlainInstr.{PlainInstr}
-use Rattle.spec_syntax.specs.Syntax.{Plain}
+use Rattle.spec_modules.specs.Syntax.{Plain}
 use Rattle.interp_state.specs.ViewLaws.{ordered_any}
 use Rattle.interp_steps.proofs.Controlling.{br_target, br_charged}
 use Rattle.interp_steps.proofs.Repeating.{each_drop, branched_walks, branched_some}

@@ -1,8 +1,8 @@
 use Rattle.std.proofs.Common.{◌≡◌, ◌≢◌, refl, sym, ap, subst, ◌∙◌, arith, true, [], ◌∷◌, ◌++◌, List, drop, length-append, append_assoc}
 use Rattle.wtypes.specs.declared.Value.{Value}
 use Rattle.wtypes.specs.declared.PlainInstr.{PlainInstr}
-use Rattle.spec_syntax.specs.Syntax.{Plain}
-use Rattle.spec_numeric.specs.Operators.{type_of, bits_of}
+use Rattle.spec_modules.specs.Syntax.{Plain}
+use Rattle.spec_modules.specs.Operators.{type_of, bits_of}
 use Rattle.laws_reduction.specs.Forms.{runs_on, IsReadyFor}
 use Rattle.laws_reduction.specs.Plain.{Done}
 use Rattle.laws_reduction.specs.Topmost.{last_one, last_two}

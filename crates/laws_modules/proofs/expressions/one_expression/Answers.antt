@@ -1,8 +1,8 @@
 use Rattle.std.proofs.Common.{◌≡◌, ℕ, List, [], ◌∷◌, ◌++◌, Some, ap, sym, subst, ◌∙◌, arith}
-use Rattle.spec_syntax.specs.Syntax.{Instrs}
-use Rattle.spec_syntax.specs.Profile.{nesting_limit}
-use Rattle.spec_binary.specs.Grammar.{expression}
-use Rattle.spec_binary.specs.Spells.{ExpressionFits}
+use Rattle.spec_modules.specs.Syntax.{Instrs}
+use Rattle.spec_modules.specs.Profile.{nesting_limit}
+use Rattle.spec_modules.specs.Grammar.{expression}
+use Rattle.spec_modules.specs.Spells.{ExpressionFits}
 use Rattle.laws_modules.specs.Readers.{same_some, fst_is}
 use Rattle.laws_modules.specs.ReadingExpressions.{expression_at}
 use Rattle.laws_modules.specs.ExpressionLaws.{FitsIn, expression_reads}

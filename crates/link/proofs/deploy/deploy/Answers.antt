@@ -1,5 +1,5 @@
 use Rattle.std.proofs.Common.{◌≡◌, ◌*◌, ◌≤◌, ℕ, None, sym, ◌∙◌, subst}
-use Rattle.spec_syntax.specs.Profile.{page_size}
+use Rattle.spec_modules.specs.Profile.{page_size}
 use Rattle.spec_execution.specs.Configuration.{size_of}
 use Rattle.module_tree.specs.declared.module.Module.{Module}
 use Rattle.module_tree.specs.Modules.{module_view}

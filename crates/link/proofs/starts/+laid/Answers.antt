@@ -3,7 +3,7 @@ use Rattle.std.specs.Prelude.{All, IfOk}
 use Rattle.std.proofs.lemmas.Bool.{eqb-true}
 use Rattle.std.proofs.lemmas.List.{length-take-le, length-drop}
 use Rattle.std.proofs.lemmas.Result.{IfOk-weaker}
-use Rattle.spec_syntax.specs.Profile.{page_size, page_limit}
+use Rattle.spec_modules.specs.Profile.{page_size, page_limit}
 use Rattle.module_tree.specs.ModuleView.{data_view}
 use Rattle.memory.specs.Start.{stands}
 use Rattle.link.specs.Starts.{EndsWithin, IsLaid}

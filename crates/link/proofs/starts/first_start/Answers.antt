@@ -1,7 +1,7 @@
 use Rattle.std.proofs.Common.{sym, subst, ◌*◌}
 use Rattle.std.specs.Prelude.{All, map}
 use Rattle.std.proofs.lemmas.Result.{IfOk-weaker}
-use Rattle.spec_syntax.specs.Profile.{page_size, page_limit}
+use Rattle.spec_modules.specs.Profile.{page_size, page_limit}
 use Rattle.module_tree.specs.ModuleView.{data_view}
 use Rattle.module_tree.specs.Modules.{module_view}
 use Rattle.memory.specs.Start.{stands}

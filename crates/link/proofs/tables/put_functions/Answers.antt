@@ -1,6 +1,6 @@
 use Rattle.std.proofs.Common.{◌≡◌, ◌+◌, ◌∙◌, ap, map, length, slice_set, slice_index_or, Some, arith, take}
 use Rattle.std.proofs.Math.Seq.{take-length}
-use Rattle.spec_numeric.specs.Memory.{written}
+use Rattle.spec_modules.specs.Memory.{written}
 use Rattle.link.proofs.Elements.{put_function}
 use Rattle.link.proofs.tables.put_functions.Goals as goal
 

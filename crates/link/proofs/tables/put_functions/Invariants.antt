@@ -1,5 +1,5 @@
 use Rattle.std.proofs.Common.{◌≡◌, Some, map, take}
-use Rattle.spec_numeric.specs.Memory.{written}
+use Rattle.spec_modules.specs.Memory.{written}
 use Rattle.link.proofs.tables.put_functions.Given as goal
 
 abbrev pub invariant-loop-i : goal.invariant-loop-i

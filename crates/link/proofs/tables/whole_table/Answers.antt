@@ -2,9 +2,9 @@ use Rattle.std.proofs.Common.{◌≡◌, ◌<◌, ◌≤◌, ◌+◌, ℕ, Optio
 use Rattle.std.specs.Prelude.{replicate}
 use Rattle.std.proofs.lemmas.List.{length-replicate}
 use Rattle.std.proofs.Math.Seq.{take-length}
-use Rattle.spec_numeric.specs.Operators.{bits_of}
+use Rattle.spec_modules.specs.Operators.{bits_of}
 use Rattle.module_tree.specs.ModuleView.{limits_view, element_view}
-use Rattle.spec_numeric.specs.Memory.{written}
+use Rattle.spec_modules.specs.Memory.{written}
 use Rattle.spec_execution.specs.Configuration.{size_of, constant, with_elements}
 use Rattle.link.proofs.Elements.{segment_fits, one_segment_more, length_in_place, length_map}
 use Rattle.link.proofs.tables.whole_table.Goals as goal

@@ -1,6 +1,6 @@
 use Rattle.std.proofs.Common.{◌≡◌, ◌+◌, ◌<◌, ◌∷◌, ◌++◌, [], map, drop, get_or, drop-cons, add-one, length, length-drop, arith, rules}
 use Rattle.std.proofs.lemmas.Result.{err_from_is_err_and}
-use Rattle.spec_syntax.specs.Limits.{counts_from}
+use Rattle.spec_modules.specs.Limits.{counts_from}
 use Rattle.laws_modules.specs.ReadingModules.{codes_at}
 use Rattle.module_tree.specs.declared.module.Func.{Func}
 use Rattle.module_tree.specs.View.{instrs_view}

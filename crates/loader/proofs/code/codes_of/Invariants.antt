@@ -1,6 +1,6 @@
 use Rattle.std.proofs.Common.{◌≡◌, ◌≤◌, true, map, drop, length}
 use Rattle.std.specs.List.{list_all}
-use Rattle.spec_syntax.specs.Limits.{counts_from}
+use Rattle.spec_modules.specs.Limits.{counts_from}
 use Rattle.laws_modules.specs.ReadingModules.{codes_at}
 use Rattle.module_tree.specs.ModuleView.{func_view, func_ordinals}
 use Rattle.expr_reader.proofs.Steps.{front}

@@ -1,7 +1,7 @@
 use Rattle.std.proofs.Common.{◌≡◌, ◌+◌, ◌-◌, ◌++◌, suc, replicate, length, length-append, ap, arith, rules}
 use Rattle.std.proofs.lemmas.List.{length-replicate}
 use Rattle.std.proofs.lemmas.Result.{err_from_is_err_and}
-use Rattle.spec_syntax.specs.Profile.{local_limit}
+use Rattle.spec_modules.specs.Profile.{local_limit}
 use Rattle.laws_modules.specs.ReadingModules.{u32_at, value_type_at, runs_at}
 use Rattle.expr_reader.proofs.Turns.{hand_on}
 use Rattle.loader.proofs.Runs.{run_more, run_uncounted, run_too_long, run_untyped, runs_done}

@@ -1,5 +1,5 @@
 use Rattle.std.proofs.Common.{◌≡◌, ◌+◌, ◌-◌, ◌≤◌, length}
-use Rattle.spec_syntax.specs.Profile.{local_limit}
+use Rattle.spec_modules.specs.Profile.{local_limit}
 use Rattle.laws_modules.specs.ReadingModules.{runs_at}
 use Rattle.expr_reader.proofs.Steps.{front}
 use Rattle.loader.proofs.code.runs_of.Given as goal

@@ -1,7 +1,7 @@
 use Rattle.std.proofs.Common.{◌≡◌, Some, map, ap, ◌∙◌}
 use Rattle.std.specs.Prelude.{option_map}
 use Rattle.std.proofs.lemmas.Result.{err_from_is_err_and}
-use Rattle.spec_syntax.specs.Syntax.{Module}
+use Rattle.spec_modules.specs.Syntax.{Module}
 use Rattle.laws_modules.specs.ReadingModules.{module_at}
 use Rattle.module_tree.specs.ModuleView.{func_type_view, import_view, limits_view, global_view, export_view, element_view, module_of}
 use Rattle.expr_reader.proofs.Turns.{hand_on}

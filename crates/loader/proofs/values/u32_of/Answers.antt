@@ -1,6 +1,6 @@
-use Rattle.spec_binary.specs.Leb.{unsigned}
-use Rattle.spec_binary.specs.Reading.{unsigned_at}
-use Rattle.spec_binary.specs.NumberLaws.{unsigned_takes, unsigned_again}
+use Rattle.spec_modules.specs.Leb.{unsigned}
+use Rattle.spec_modules.specs.Reading.{unsigned_at}
+use Rattle.spec_modules.specs.NumberLaws.{unsigned_takes, unsigned_again}
 use Rattle.expr_reader.proofs.Numbers.{found_is, none_is}
 use Rattle.loader.proofs.values.u32_of.Goals as goal
 

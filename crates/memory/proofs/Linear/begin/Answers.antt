@@ -1,6 +1,6 @@
 use Rattle.std.proofs.Common.{◌*◌, ap}
 use Rattle.std.specs.Prelude.{Some}
-use Rattle.spec_syntax.specs.Profile.{page_size}
+use Rattle.spec_modules.specs.Profile.{page_size}
 use Rattle.memory.specs.Start.{begins}
 use Rattle.memory.proofs.Lists.{all_first}
 use Rattle.memory.proofs.Linear.begin.Goals as goal

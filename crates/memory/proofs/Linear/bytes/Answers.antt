@@ -1,5 +1,5 @@
 use Rattle.std.proofs.Common.{◌≡◌, ◌+◌, ◌*◌, ◌≤◌, ◌∙◌, arith, length, ap, subst, sym, take, drop, IfOk}
-use Rattle.spec_syntax.specs.Profile.{page_size}
+use Rattle.spec_modules.specs.Profile.{page_size}
 use Rattle.memory.proofs.Lists.{length_bytes}
 use Rattle.memory.proofs.Copies.{read}
 use Rattle.std.specs.Prelude.{option_copied}

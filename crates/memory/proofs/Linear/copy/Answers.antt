@@ -1,5 +1,5 @@
 use Rattle.std.proofs.Common.{◌*◌, ap, ◌∙◌}
-use Rattle.spec_syntax.specs.Profile.{page_size}
+use Rattle.spec_modules.specs.Profile.{page_size}
 use Rattle.memory.proofs.Copies.{same_bytes, same_sound}
 use Rattle.std.specs.Prelude.{option_copied}
 use Rattle.memory.specs.Start.{begins}

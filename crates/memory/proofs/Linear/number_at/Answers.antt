@@ -1,6 +1,6 @@
 use Rattle.std.proofs.Common.{◌∙◌, ◌%◌, ◌*◌, sym, ap, arith}
 use Rattle.std.specs.Prelude.{slice_index, option_copied}
-use Rattle.spec_syntax.specs.Profile.{page_size}
+use Rattle.spec_modules.specs.Profile.{page_size}
 use Rattle.memory.specs.Pieces.{piece_size, byte_in, number_in}
 use Rattle.memory.specs.Start.{begins}
 use Rattle.memory.proofs.Lists.{in_this, loaded}

@@ -1,6 +1,6 @@
 use Rattle.std.proofs.Common.{◌+◌, ◌*◌, ◌≤◌, arith, length, subst, sym}
 use Rattle.std.specs.Prelude.{option_copied}
-use Rattle.spec_syntax.specs.Profile.{page_size}
+use Rattle.spec_modules.specs.Profile.{page_size}
 use Rattle.memory.specs.Start.{begins}
 use Rattle.memory.proofs.Lists.{length_bytes, loaded}
 use Rattle.memory.proofs.Linear.other_number.Goals as goal

@@ -1,6 +1,6 @@
 use Rattle.std.proofs.Common.{◌+◌, ◌*◌, ◌∙◌, arith, ap, subst, take}
 use Rattle.std.specs.Prelude.{Ok}
-use Rattle.spec_syntax.specs.Profile.{page_size}
+use Rattle.spec_modules.specs.Profile.{page_size}
 use Rattle.memory.specs.Linear.{Memory, Stored}
 use Rattle.memory.specs.Pieces.{bytes_in}
 use Rattle.memory.proofs.Lists.{lowest, is_put, not_put, put_stored}

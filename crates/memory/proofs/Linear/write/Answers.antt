@@ -1,6 +1,6 @@
 use Rattle.std.proofs.Common.{◌≡◌, ◌*◌, ◌∙◌, arith, ap, refl, sym, subst, length}
 use Rattle.std.proofs.lemmas.Bool.{eqb-true}
-use Rattle.spec_syntax.specs.Profile.{page_size}
+use Rattle.spec_modules.specs.Profile.{page_size}
 use Rattle.memory.proofs.Lists.{length_bytes, all_same, stored, shown}
 use Rattle.std.specs.Prelude.{option_copied}
 use Rattle.memory.specs.Start.{begins}

@@ -1,4 +1,4 @@
-use Rattle.intake.specs.Intakes.{IsSeatOf}
+use Rattle.book_workers.specs.Intakes.{IsSeatOf}
 use Rattle.miner.proofs.rest.draw_rest.Given as goal
 
 abbrev pub invariant-loop : goal.invariant-loop

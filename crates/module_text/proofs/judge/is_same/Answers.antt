@@ -1,5 +1,5 @@
 use Rattle.std.proofs.Common.{ℕ, List, ◌++◌, ap, ◌∙◌}
-use Rattle.spec_binary.specs.Shortest.{shortest}
+use Rattle.spec_modules.specs.Shortest.{shortest}
 use Rattle.module_tree.specs.Modules.{module_view}
 use Rattle.module_text.proofs.Same.{same_spelling}
 use Rattle.module_text.proofs.judge.is_same.Goals as goal

@@ -1,5 +1,5 @@
 use Rattle.std.proofs.Common.{◌≡◌, ◌+◌, drop, length}
-use Rattle.spec_syntax.specs.Shape.{preorder}
+use Rattle.spec_modules.specs.Shape.{preorder}
 use Rattle.module_tree.specs.View.{instrs_view}
 use Rattle.module_tree.proofs.shape.+count.Given as goal
 

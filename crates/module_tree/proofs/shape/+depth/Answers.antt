@@ -1,5 +1,5 @@
 use Rattle.std.proofs.Common.{◌≡◌, ◌<◌, length, get_or, arith, rules, ap, ◌∙◌, ◌+◌, drop, max}
-use Rattle.spec_syntax.specs.Shape.{instr_depth, instrs_depth}
+use Rattle.spec_modules.specs.Shape.{instr_depth, instrs_depth}
 use Rattle.module_tree.specs.View.{instr_view, instrs_view}
 use Rattle.module_tree.proofs.Walks.{depth_next}
 use Rattle.module_tree.proofs.shape.+depth.Goals as goal

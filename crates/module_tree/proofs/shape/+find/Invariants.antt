@@ -1,5 +1,5 @@
 use Rattle.std.proofs.Common.{◌≡◌, ◌+◌, take, length}
-use Rattle.spec_syntax.specs.Shape.{preorder}
+use Rattle.spec_modules.specs.Shape.{preorder}
 use Rattle.module_tree.specs.View.{instrs_view, ordinals}
 use Rattle.module_tree.proofs.shape.+find.Given as goal
 

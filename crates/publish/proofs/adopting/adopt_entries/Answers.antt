@@ -2,6 +2,7 @@ use Rattle.std.proofs.Common.{◌≡◌, ◌+◌, ◌∷◌, ◌++◌, [], ◌<�
 use Rattle.std.specs.FinMap.{empty}
 use Rattle.std.proofs.lemmas.List.{take_more}
 use Rattle.spec_execution.specs.Run.{ContractCall}
+use Rattle.spec_ledger.specs.declared.Receipt.{Receipt}
 use Rattle.spec_ledger.specs.declared.Version.TheVariants.{Two}
 use Rattle.interp.specs.Callee.{setting_view}
 use Rattle.publish.proofs.Keeping.{WalkState, opened, kept_opened}
@@ -126,7 +127,8 @@ note-requires-clause-used g c =
     let is = c.if-not-is_run_of.ensures.0 refl in
     let follows = follows_here p es rs ms b i e.result r.result below even locked e.is r.is c.loop-place.invariant c.fuel-limit.result limit true c.if-not-has_room.ensures refl in
     let used = used_next p es rs ms b i e.result r.result below even locked e.is r.is c.loop-place.invariant c.fuel-limit.result limit follows is c.is_played.ensures c.ranges.fuel.fits in
-    omega (arith, used, c.reserve_next.ensures.used, c.used.ensures)
+    let used_is = ap (λ (r : Receipt). r.used) c.receipt-receipt.ensures in
+    omega (arith, used, c.reserve_next.ensures.used, used_is)
 
 pub loop-place-preserved : goal.loop-place-preserved
 loop-place-preserved g c =
@@ -152,7 +154,7 @@ loop-place-preserved g c =
     let roomy : WalkState = record { order = room.order.items; receipts = room.receipts.items; touched = take i ms; marks = room.marks.items; remaining = room.remaining; used = room.used; counts = empty } in
     let after : WalkState = record { order = new.order.items; receipts = new.receipts.items; touched = take (i + 1) ms; marks = new.marks.items; remaining = new.remaining; used = new.used; counts = empty } in
     walked_on p es rs ms b i e.result r.result below even locked e.is r.is c.loop-place.invariant c.fuel-limit.result limit follows is c.is_played.ensures roomy after made.order made.receipts refl made.marks made.remaining made.used
-    put.order (put.receipts ∙ (λ k. room.receipts.items ++ record { outcome = c.outcome.ensures k; used = c.used.ensures k; asks = c.asks.ensures k } ∷ [])) (take_more ms i empty (omega (arith, below, locked))) put.marks put.remaining (put.used ∙ ap (λ u. room.used + u) c.used.ensures) refl
+    put.order (put.receipts ∙ ap (λ (r : Receipt). room.receipts.items ++ r ∷ []) c.receipt-receipt.ensures) (take_more ms i empty (omega (arith, below, locked))) put.marks put.remaining (put.used ∙ ap (λ (r : Receipt). room.used + r.used) c.receipt-receipt.ensures) refl
 
 pub returns-clause-answer : goal.returns-clause-answer
 returns-clause-answer g c =

@@ -2,7 +2,8 @@ use Rattle.std.proofs.Common.{◌≡◌, ◌<◌, ◌↔◌, length, subst, arit
 use Rattle.std.specs.List.{Contains}
 use Rattle.std.specs.BTreeMap.{get}
 use Rattle.std.proofs.lemmas.Option.{slice_get_within}
-use Rattle.schedule.specs.Turns.{behind_turn, turn_cmp, AreNumbered, IsHolder}
+use Rattle.lock_profile.specs.LockTurns.{turn_cmp}
+use Rattle.schedule.specs.Turns.{behind_turn, AreNumbered, IsHolder}
 use Rattle.schedule.proofs.Numbered.{profile_there, profile_of, holders_more}
 use Rattle.schedule.proofs.gates.behind_of.Goals as goal
 

@@ -1,8 +1,9 @@
 use Rattle.std.proofs.Common.{◌<◌, ◌↔◌, ℕ}
 use Rattle.std.specs.List.{Contains}
 use Rattle.std.specs.BTreeMap.{get}
-use Rattle.schedule.specs.declared.lock_turn.LockTurn.{LockTurn}
-use Rattle.schedule.specs.Turns.{turn_cmp, behind_turn, AreNumbered, IsHolder}
+use Rattle.lock_profile.specs.declared.lock_turn.LockTurn.{LockTurn}
+use Rattle.lock_profile.specs.LockTurns.{turn_cmp}
+use Rattle.schedule.specs.Turns.{behind_turn, AreNumbered, IsHolder}
 use Rattle.schedule.proofs.gates.behind_of.Given as goal
 
 abbrev pub invariant-loop-position : goal.invariant-loop-position

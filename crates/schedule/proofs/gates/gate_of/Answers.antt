@@ -2,9 +2,9 @@ use Rattle.std.proofs.Common.{◌≡◌, ◌<◌, ◌+◌, ◌^◌, cond, Some, 
 use Rattle.std.specs.declared.cmp.Ordering.{Ordering}
 use Rattle.std.specs.BTreeMap.{get}
 use Rattle.std.specs.Ordering.{eq_by_cmp}
-use Rattle.schedule.specs.declared.lock_turn.LockTurn.{LockTurn}
-use Rattle.schedule.specs.Turns.{turn_cmp}
-use Rattle.schedule.proofs.Places.{derived_is}
+use Rattle.lock_profile.specs.declared.lock_turn.LockTurn.{LockTurn}
+use Rattle.lock_profile.specs.LockTurns.{turn_cmp}
+use Rattle.lock_profile.proofs.Places.{derived_is}
 use Rattle.schedule.proofs.Numbered.{one_numbered, own_gate, same_behind}
 use Rattle.schedule.proofs.gates.gate_of.Goals as goal
 

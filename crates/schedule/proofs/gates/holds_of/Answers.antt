@@ -1,6 +1,7 @@
 use Rattle.std.proofs.Common.{◌≡◌, ◌++◌, ◌∷◌, [], ◌∙◌, length, ap, subst, arith}
 use Rattle.std.specs.BTreeMap.{get}
-use Rattle.schedule.specs.Turns.{turn_cmp, AreHeld}
+use Rattle.lock_profile.specs.LockTurns.{turn_cmp}
+use Rattle.schedule.specs.Turns.{AreHeld}
 use Rattle.schedule.proofs.Turns.{small_turns}
 use Rattle.schedule.proofs.Numbered.{profile_there, profile_of, held_more}
 use Rattle.schedule.proofs.gates.holds_of.Goals as goal

@@ -1,5 +1,6 @@
 use Rattle.std.specs.BTreeMap.{get}
-use Rattle.schedule.specs.Turns.{turn_cmp, AreHeld}
+use Rattle.lock_profile.specs.LockTurns.{turn_cmp}
+use Rattle.schedule.specs.Turns.{AreHeld}
 use Rattle.schedule.proofs.gates.holds_of.Given as goal
 
 abbrev pub invariant-loop-profile : goal.invariant-loop-profile

@@ -5,9 +5,10 @@ use Rattle.std.specs.BTreeMap.{get}
 use Rattle.spec_ledger.specs.declared.Kind.TheVariants.{Map}
 use Rattle.spec_ledger.specs.declared.Mode.TheVariants.{Read}
 use Rattle.spec_ledger.specs.declared.Entry.{Entry}
-use Rattle.schedule.specs.declared.lock_turn.LockTurn.{LockTurn}
-use Rattle.schedule.specs.Turns.{next_turn, turn_cmp, IsHeld}
-use Rattle.schedule.proofs.Places.{derived_is}
+use Rattle.lock_profile.specs.declared.lock_turn.LockTurn.{LockTurn}
+use Rattle.lock_profile.specs.LockTurns.{turn_cmp}
+use Rattle.schedule.specs.Turns.{next_turn, IsHeld}
+use Rattle.lock_profile.proofs.Places.{derived_is}
 use Rattle.schedule.proofs.Numbered.{fits_next, next_more, next_none}
 use Rattle.schedule.proofs.gates.next_gates.Goals as goal
 use Rattle.schedule.proofs.gates.next_gates.Goals.{in-Some+in_ok-push, in_default}

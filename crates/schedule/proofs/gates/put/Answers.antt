@@ -4,7 +4,8 @@ use Rattle.std.specs.List.{Contains}
 use Rattle.std.specs.BTreeMap.{get}
 use Rattle.std.specs.Ordering.{eq_by_cmp}
 use Rattle.schedule.specs.Graph.{list_at}
-use Rattle.schedule.specs.Turns.{turn_cmp, behind_gate, behind_turn}
+use Rattle.lock_profile.specs.LockTurns.{turn_cmp}
+use Rattle.schedule.specs.Turns.{behind_gate, behind_turn}
 use Rattle.schedule.proofs.Numbered.{put_numbered, put_behind}
 use Rattle.schedule.proofs.gates.put.Goals as goal
 

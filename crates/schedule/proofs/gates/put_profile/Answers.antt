@@ -2,7 +2,8 @@ use Rattle.std.proofs.Common.{◌≡◌, ◌⊎◌, ◌↔◌, inl, inr, ap, sub
 use Rattle.std.proofs.lemmas.List.{take_all}
 use Rattle.std.specs.List.{Contains}
 use Rattle.std.specs.BTreeMap.{get}
-use Rattle.schedule.specs.Turns.{behind_turn, turn_cmp, IsAt}
+use Rattle.lock_profile.specs.LockTurns.{turn_cmp}
+use Rattle.schedule.specs.Turns.{behind_turn, IsAt}
 use Rattle.schedule.proofs.Numbered.{profile_more, came_before, below_turn, more_positions}
 use Rattle.schedule.proofs.gates.put_profile.Goals as goal
 

@@ -1,7 +1,7 @@
 use Rattle.std.proofs.Common.{ap, ◌∙◌}
 use Rattle.std.specs.BTreeMap.{get}
 use Rattle.schedule.specs.Waves.{or_none}
-use Rattle.schedule.proofs.Places.{derived_is}
+use Rattle.lock_profile.proofs.Places.{derived_is}
 use Rattle.schedule.proofs.waves.least_at.Goals as goal
 
 pub returns-in-Some : goal.returns-in-Some

@@ -5,11 +5,12 @@ use Rattle.std.specs.Ordering.{eq_by_cmp}
 use Rattle.spec_ledger.specs.declared.Kind.TheVariants.{Map}
 use Rattle.spec_ledger.specs.declared.Mode.TheVariants.{Read}
 use Rattle.spec_ledger.specs.declared.Entry.{Entry}
-use Rattle.schedule.specs.declared.lock_turn.LockTurn.{LockTurn}
-use Rattle.schedule.specs.Turns.{turn_cmp, next_turn}
+use Rattle.lock_profile.specs.declared.lock_turn.LockTurn.{LockTurn}
+use Rattle.lock_profile.specs.LockTurns.{turn_cmp}
+use Rattle.schedule.specs.Turns.{next_turn}
 use Rattle.schedule.specs.Waves.{least_of}
-use Rattle.schedule.specs.contracts.lock_turn.LockTurnOrd.TheImpl as derived
-use Rattle.schedule.proofs.Places.{derived_is}
+use Rattle.lock_profile.specs.contracts.lock_turn.LockTurnOrd.TheImpl as derived
+use Rattle.lock_profile.proofs.Places.{derived_is}
 use Rattle.schedule.proofs.Numbered.{fits_next}
 use Rattle.schedule.proofs.Least.{raised_more, put_at, kept_at}
 use Rattle.schedule.proofs.waves.raise.Goals as goal

@@ -1,6 +1,6 @@
 use Rattle.std.proofs.Common.{take}
 use Rattle.std.specs.BTreeMap.{get}
-use Rattle.schedule.specs.Turns.{turn_cmp}
+use Rattle.lock_profile.specs.LockTurns.{turn_cmp}
 use Rattle.schedule.specs.Waves.{least_of, AreRaised}
 use Rattle.schedule.proofs.waves.raise.Given as goal
 

@@ -1,6 +1,6 @@
 use Rattle.std.proofs.Common.{inl, inr}
 use Rattle.std.specs.BTreeMap.{get}
-use Rattle.schedule.specs.Turns.{turn_cmp}
+use Rattle.lock_profile.specs.LockTurns.{turn_cmp}
 use Rattle.schedule.specs.Waves.{least_of}
 use Rattle.schedule.proofs.Least.{greatest_more}
 use Rattle.schedule.proofs.waves.wave_of.Goals as goal

@@ -2,7 +2,7 @@ use Rattle.std.proofs.Common.{◌<◌, ℕ, ap, arith}
 use Rattle.std.specs.BTreeMap.{get, is_at}
 use Rattle.std.specs.Map.{lookup}
 use Rattle.spec_block.specs.Schedule.{IsEdge}
-use Rattle.schedule.specs.Turns.{turn_cmp}
+use Rattle.lock_profile.specs.LockTurns.{turn_cmp}
 use Rattle.schedule.specs.Waves.{or_none, least_of}
 use Rattle.schedule.proofs.Turns.{forward, small_turns}
 use Rattle.schedule.proofs.Numbered.{profile_there, profile_of}

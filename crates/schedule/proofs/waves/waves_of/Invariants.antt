@@ -1,5 +1,5 @@
 use Rattle.std.specs.BTreeMap.{get}
-use Rattle.schedule.specs.Turns.{turn_cmp}
+use Rattle.lock_profile.specs.LockTurns.{turn_cmp}
 use Rattle.schedule.specs.Waves.{least_of}
 use Rattle.schedule.proofs.Least.{AreLeast}
 use Rattle.schedule.proofs.WaveSteps.{AreSoFar}

@@ -1,4 +1,4 @@
-use Rattle.serial.proofs.Replies.{is_reply}
+use Rattle.spec_execution.proofs.Replies.{is_reply}
 use Rattle.serial.proofs.steps.act.Goals as goal
 
 pub returns-clause-is_reply : goal.returns-clause-is_reply

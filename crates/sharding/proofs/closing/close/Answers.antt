@@ -22,3 +22,8 @@ returns-clause-cells g c =
     (own_cells c.args.opening.cells c.args.entries.items c.args.parts.now are whole)
     (same_cells c.args.opening.cells c.args.entries.items c.args.parts.now are whole))
     c.in_ok-cells.cells.cells c.in_ok-cells.ensures.cells
+
+pub returns-clause-differs : goal.returns-clause-differs
+returns-clause-differs g c =
+    let are = subst (λ es. AreParts c.args.opening.cells es c.args.parts.now) c.deref.ensures.value (c.are_parts.ensures.parts.0 c.if-not-are_parts.false) in
+    (λ e. absurd (cc e), λ isnt. absurd (isnt are))

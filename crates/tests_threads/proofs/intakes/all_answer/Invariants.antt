@@ -1,6 +1,6 @@
 use Rattle.std.proofs.Common.{◌≡◌, length}
 use Rattle.std.specs.List.{All}
-use Rattle.intake.specs.Intakes.{IsSeatOf}
+use Rattle.book_workers.specs.Intakes.{IsSeatOf}
 use Rattle.tests_threads.proofs.intakes.all_answer.Given as goal
 
 abbrev pub invariant-loop-step : goal.invariant-loop-step

@@ -1,7 +1,7 @@
 use Rattle.std.proofs.Common.{map, take, arith, ap, ◌∙◌}
 use Rattle.std.specs.Prelude.{string_bytes}
 use Rattle.std.specs.List.{list_all}
-use Rattle.spec_syntax.specs.Limits.{export_fits}
+use Rattle.spec_modules.specs.Limits.{export_fits}
 use Rattle.text_fields.proofs.Parting.{exports_fit}
 use Rattle.text_fields.proofs.field.exports_of.Goals as goal
 

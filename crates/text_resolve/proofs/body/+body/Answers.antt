@@ -3,13 +3,13 @@ use Rattle.std.specs.Prelude.{option_map}
 use Rattle.std.proofs.lemmas.Result.{err_from_is_err_and}
 use Rattle.module_tree.specs.View.{ordinals, instr_view, instrs_view}
 use Rattle.module_tree.specs.Numbering.{numbered_none, numbered_push, numbered_Block, numbered_If}
-use Rattle.spec_syntax.specs.Limits.{instrs_fit}
+use Rattle.spec_modules.specs.Limits.{instrs_fit}
 use Rattle.spec_text.specs.Spaces.{Names}
 use Rattle.text_body.specs.Views.{text_of, flat_of, opener_of}
 use Rattle.text_body.specs.declared.flat.Flat.TheVariants as flat
 use Rattle.text_body.specs.declared.flat.Opener.TheVariants as opener
 use Rattle.spec_text.specs.Named as N
-use Rattle.spec_syntax.specs.Syntax as S
+use Rattle.spec_modules.specs.Syntax as S
 use Rattle.text_resolve.proofs.Lookups.{hand_on}
 use Rattle.text_resolve.specs.Views.{spaces_of, flats_from}
 use Rattle.text_resolve.specs.Bodies.{is_done, one_at, body_at, behind_end, behind_else}

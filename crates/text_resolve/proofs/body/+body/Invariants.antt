@@ -1,5 +1,5 @@
 use Rattle.std.proofs.Common.{◌≡◌, ℕ, ◌+◌, ◌-◌, ◌*◌, ◌≤◌, true, map, length}
-use Rattle.spec_syntax.specs.Limits.{instrs_fit}
+use Rattle.spec_modules.specs.Limits.{instrs_fit}
 use Rattle.module_tree.specs.View.{instrs_view, ordinals}
 use Rattle.module_tree.specs.Numbering.{Numbered}
 use Rattle.text_body.specs.Views.{text_of}

@@ -1,56 +1,18 @@
-use Rattle.std.proofs.Common.{ℕ, IfNone, IfSome, inl, inr, ap, sym, ◌∙◌, subst}
+use Rattle.std.proofs.Common.{ap, sym, ◌∙◌}
 use Rattle.sha2.specs.Sha256.{sha256}
-use Rattle.serial.specs.Positions.{results_of}
-use Rattle.serial.proofs.BlocksLimits.{fuel_is}
 use Rattle.spec_block.specs.Worlds.{World}
 use Rattle.spec_block.specs.Bytes.{world_bytes}
-use Rattle.spec_block.specs.Verdicts.{IsLeast, IsOther}
 use Rattle.world.specs.Views.{world_view}
-use Rattle.validator.proofs.Ends.{deviates, wrong_end, accepted, is_so, is_not_so}
 use Rattle.validator.proofs.end.conclude.Goals as goal
-
-pub returns-in-Some : goal.returns-in-Some
-returns-in-Some g c = λ calls fuel run.
-    let core = c.args.ran in
-    let block = c.args.block.now in
-    let ran = results_of core.receipts.items core.touched.items in
-    deviates c.one_serial_run.ensures.one (world_view c.args.world.now) block ran core.cells.cells calls fuel run c.in-Some.position
-    (subst (λ o. IfSome o (IsLeast (IsOther block.positions ran))) c.in-Some.is c.in_ok-compared.ensures.compared.other)
-
-pub returns-then-not-compared : goal.returns-then-not-compared
-returns-then-not-compared g c = λ calls fuel run.
-    let core = c.args.ran in
-    let rs = core.receipts.items in
-    let ms = core.touched.items in
-    let block = c.args.block.now in
-    let alike = subst (λ o. IfNone o ((p : ℕ) → ¬ (IsOther block.positions (results_of rs ms) p))) c.in_default.is c.in_ok-compared.ensures.compared.same in
-    let total = fuel_is rs ms (c.requires.receipts ∙ sym c.requires.touched) in
-    wrong_end c.one_serial_run.ensures.one (world_view c.args.world.now) block (results_of rs ms) core.cells.cells calls fuel run alike
-    (inl (λ same. is_not_so c.in_ok-compared.compared.is_total c.if-not-compared.true (c.in_ok-compared.ensures.compared.total.1 (same ∙ sym total))))
-
-pub returns-then-not-is_digest : goal.returns-then-not-is_digest
-returns-then-not-is_digest g c = λ calls fuel run.
-    let core = c.args.ran in
-    let rs = core.receipts.items in
-    let ms = core.touched.items in
-    let world = world_view c.args.world.now in
-    let block = c.args.block.now in
-    let alike = subst (λ o. IfNone o ((p : ℕ) → ¬ (IsOther block.positions (results_of rs ms) p))) c.in_default.is c.in_ok-compared.ensures.compared.same in
-    let digest = c.in_ok-compared.ensures.digest ∙ ap (λ (w : World). sha256 (world_bytes w)) c.in_ok-next.ensures in
-    wrong_end c.one_serial_run.ensures.one world block (results_of rs ms) core.cells.cells calls fuel run alike
-    (inr (λ same. let yes = c.is_digest.ensures.1 (c.after.ensures ∙ (same ∙ sym digest)) in let no = c.if-not-is_digest.true in cc (yes, no)))
 
 pub returns : goal.returns
 returns g c = λ calls fuel run.
-    let core = c.args.ran in
-    let rs = core.receipts.items in
-    let ms = core.touched.items in
-    let world = world_view c.args.world.now in
-    let block = c.args.block.now in
-    let alike = subst (λ o. IfNone o ((p : ℕ) → ¬ (IsOther block.positions (results_of rs ms) p))) c.in_default.is c.in_ok-compared.ensures.compared.same in
-    let total = fuel_is rs ms (c.requires.receipts ∙ sym c.requires.touched) in
-    let digest = c.in_ok-compared.ensures.digest ∙ ap (λ (w : World). sha256 (world_bytes w)) c.in_ok-next.ensures in
-    accepted c.one_serial_run.ensures.one world block (results_of rs ms) core.cells.cells calls fuel run alike
-    (c.in_ok-compared.ensures.compared.total.0 (is_so c.in_ok-compared.compared.is_total c.if-not-compared.false) ∙ total)
-    (sym c.after.ensures ∙ (c.is_digest.ensures.0 c.if-not-is_digest.false ∙ digest))
-    (world_view c.in_ok-next.next) c.in_ok-next.ensures
+    let ran = c.args.ran in
+    c.verdict_by.ensures (world_view c.args.world.now) calls fuel ran.receipts.items ran.touched.items ran.cells.cells
+    (record {
+      run = run;
+      many = c.requires.receipts ∙ sym c.requires.touched;
+      compared = c.in_ok-compared.ensures.compared;
+      digest_is = c.in_ok-compared.ensures.digest ∙ ap (λ (w : World). sha256 (world_bytes w)) (sym c.with_digest.ensures);
+      next_is = c.with_digest.ensures ∙ c.in_ok-next.ensures;
+    })

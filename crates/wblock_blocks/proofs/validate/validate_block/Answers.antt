@@ -1,19 +1,25 @@
-use Rattle.std.proofs.Common.{◌≡◌, IsTrue, Some, inl, inr, subst}
-use Rattle.std.proofs.lemmas.Result.{err_from_is_err_and}
-use Rattle.spec_block.specs.Verdicts.{IsVerdictOf}
-use Rattle.validator.specs.Judged.{verdict_view}
+use Rattle.std.proofs.Common.{◌≡◌, IsTrue, Some, inl, inr, string_bytes, subst}
+use Rattle.std.proofs.lemmas.Result.{IfOk-weaker, err_from_is_err_and}
+use Rattle.wblock_line.specs.Answers.{upshot_of}
+use Rattle.wblock_line.specs.Upshots.{of_answer}
 use Rattle.wblock_line.specs.Inputs.{HoldsWorld, HoldsCalls, Gives, IsNextInput}
-use Rattle.wblock_blocks.specs.Validates.{IsNextFile}
+use Rattle.wblock_blocks.specs.Validates.{IsNextFile, ValidatesOver}
 use Rattle.wblock_line.specs.FaultLaws.{of_file_weaker}
 use Rattle.world.specs.Views.{world_view}
 use Rattle.wblock_blocks.proofs.validate.validate_block.Goals as goal
 
-pub returns-in-Ok-tell-clause-answers : goal.returns-in-Ok-tell-clause-answers
-returns-in-Ok-tell-clause-answers g c = λ t.
+pub returns-in-Refused-clause-answers : goal.returns-in-Refused-clause-answers
+returns-in-Refused-clause-answers g c = IfOk-weaker c.refuse.result _ _ (λ a told t. inl (record {
+  line = string_bytes c.in-Refused.line;
+  why = subst (λ inputs. Gives (g.F.Files.holds c.args.files.now) c.args.task.world.now c.args.task.calls.now inputs) c.in-Refused.is (c.in_ok-world.ensures.gives t);
+  told = of_answer c.args.task.json (string_bytes c.in-Refused.line) a told;
+})) c.refuse.ensures.told
+
+pub returns-in-Ok-clause-answers : goal.returns-in-Ok-clause-answers
+returns-in-Ok-clause-answers g c = λ t.
     let holds = g.F.Files.holds c.args.files.now in
     let world = world_view c.in-Read.world in
     let bytes = c.in_ok-bytes.bytes.items in
-    let verdict = verdict_view c.in-Ok.verdict in
     let held : HoldsWorld holds c.args.task.world.now world × HoldsCalls holds c.args.task.calls.now c.in-Read.calls.items =
     subst (λ inputs. Gives holds c.args.task.world.now c.args.task.calls.now inputs) c.in-Read.is (c.in_ok-world.ensures.gives t) in inr (record {
       world = world;
@@ -22,11 +28,9 @@ returns-in-Ok-tell-clause-answers g c = λ t.
       held_calls = held.1;
       bytes = bytes;
       held_block = subst (λ h. h c.args.task.block.now ≡ Some bytes) (c.in_ok-world.ensures.kept t) (c.in_ok-bytes.ensures.bytes t);
-      verdict = verdict;
-      is =
-          subst (λ calls. IsVerdictOf world calls c.args.task.fuel bytes verdict) c.deref.ensures.value
-          (subst (λ b. IsVerdictOf world c.deref.result.now c.args.task.fuel b verdict) c.deref-2.ensures.value c.in-Ok.ensures);
-      tells = c.in-Ok-tell.ensures;
+      validates =
+          subst (λ calls. ValidatesOver world calls bytes c.args.task (upshot_of c.in-Ok.answer)) c.deref.ensures.value
+          (subst (λ b. ValidatesOver world c.deref.result.now b c.args.task (upshot_of c.in-Ok.answer)) c.deref-2.ensures.value c.in-Ok.ensures);
     })
 
 pub returns-in_err-world-clause-next : goal.returns-in_err-world-clause-next

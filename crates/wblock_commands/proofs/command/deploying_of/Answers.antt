@@ -6,3 +6,6 @@ returns-in_default-2 c = λ d a. if_none c.in_ok-onto.field-0 _ _ c.in_default-2
 
 pub returns-in_default-3 : goal.returns-in_default-3
 returns-in_default-3 c = λ d a. if_none c.in_ok-forced.field-0 _ _ c.in_default-3.is c.in_ok-forced.ensures d.forced a.force
+
+pub returns-in_default-4 : goal.returns-in_default-4
+returns-in_default-4 c = λ d a. if_none c.in_ok-json.field-0 _ _ c.in_default-4.is c.in_ok-json.ensures d.json a.json

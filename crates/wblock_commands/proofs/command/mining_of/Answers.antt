@@ -9,3 +9,6 @@ returns-in_default-3 c = λ m a. if_none c.in_ok-tries.field-0 _ _ c.in_default-
 
 pub returns-in_default-4 : goal.returns-in_default-4
 returns-in_default-4 c = λ m a. if_none c.in_ok-boosted.field-0 _ _ c.in_default-4.is c.in_ok-boosted.ensures m.boosted a.boosted
+
+pub returns-in_default-5 : goal.returns-in_default-5
+returns-in_default-5 c = λ m a. if_none c.in_ok-json.field-0 _ _ c.in_default-5.is c.in_ok-json.ensures m.json a.json

@@ -10,9 +10,13 @@ returns-in_default-2 c = λ v a. if_none c.in_ok-boosted.field-0 _ _ c.in_defaul
 pub returns-in_default-3 : goal.returns-in_default-3
 returns-in_default-3 c = λ v a. if_none c.in_ok-next.field-0 _ _ c.in_default-3.is c.in_ok-next.ensures v.next a.next
 
+pub returns-in_default-4 : goal.returns-in_default-4
+returns-in_default-4 c = λ v a. if_none c.in_ok-json.field-0 _ _ c.in_default-4.is c.in_ok-json.ensures v.json a.json
+
 pub returns : goal.returns
 returns c = record {
   counts = if_some c.in_ok-counted.field-0 _ _ c.in-Some.counted c.in-Some.is c.in_ok-counted.ensures;
   boosted = if_some c.in_ok-boosted.field-0 _ _ c.in-Some-2.boosted c.in-Some-2.is c.in_ok-boosted.ensures;
   next = if_some c.in_ok-next.field-0 _ _ c.in-Some-3.next c.in-Some-3.is c.in_ok-next.ensures;
+  json = if_some c.in_ok-json.field-0 _ _ c.in-Some-4.json c.in-Some-4.is c.in_ok-json.ensures;
 }

@@ -3,8 +3,8 @@ use Rattle.wblock_calls.specs.Words.{texts}
 use Rattle.wblock_line.specs.Words.{Line, line_of, choices}
 use Rattle.wblock_blocks.specs.declared.mine.Mining.{Mining}
 use Rattle.wblock_blocks.specs.declared.validate.Validation.{Validation}
-use Rattle.wblock_debug.specs.declared.called.Calling.{Calling}
-use Rattle.wblock_debug.specs.Calling.{AsksCall}
+use Rattle.wblock_call.specs.declared.called.Calling.{Calling}
+use Rattle.wblock_call.specs.Calling.{AsksCall}
 use Rattle.wblock_debug.specs.declared.asked.Debugging.{Debugging}
 use Rattle.wblock_debug.specs.Asks.{AsksDebug}
 use Rattle.wblock_commands.specs.Words.{AsksMine, AsksValidate}

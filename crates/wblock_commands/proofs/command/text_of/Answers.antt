@@ -2,4 +2,7 @@ use Rattle.wblock_commands.proofs.Lines.{if_none}
 use Rattle.wblock_commands.proofs.command.text_of.Goals as goal
 
 pub returns-in_default : goal.returns-in_default
-returns-in_default c = λ source target unchecked a. if_none c.switch_alone.result _ _ c.in_default.is c.switch_alone.ensures unchecked a.options
+returns-in_default c = λ source target unchecked json a. if_none c.in_ok-unchecked.field-0 _ _ c.in_default.is c.in_ok-unchecked.ensures unchecked a.unchecked_is
+
+pub returns-in_default-2 : goal.returns-in_default-2
+returns-in_default-2 c = λ source target unchecked json a. if_none c.in_ok-json.field-0 _ _ c.in_default-2.is c.in_ok-json.ensures json a.json_is

@@ -1,5 +1,5 @@
 use Rattle.std.proofs.Common.{arith}
-use Rattle.wblock_debug.proofs.Colons.{at_none}
+use Rattle.wblock_usage.proofs.Colons.{at_none}
 use Rattle.wblock_debug.proofs.Options.{no_two}
 use Rattle.wblock_debug.proofs.asked.block_of.Goals as goal
 

@@ -1,5 +1,5 @@
-use Rattle.wblock_debug.specs.Words.{choice}
-use Rattle.wblock_debug.proofs.Colons.{at_none}
+use Rattle.wblock_usage.specs.Words.{choice}
+use Rattle.wblock_usage.proofs.Colons.{at_none}
 use Rattle.wblock_debug.proofs.Options.{in_either_order}
 use Rattle.wblock_debug.proofs.asked.fuelled_block.Goals as goal
 

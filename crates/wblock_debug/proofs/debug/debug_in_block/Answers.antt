@@ -1,5 +1,5 @@
 use Rattle.std.proofs.Common.{inr}
-use Rattle.wblock_debug.proofs.Colons.{at_some}
+use Rattle.wblock_usage.proofs.Colons.{at_some}
 use Rattle.wblock_debug.proofs.debug.debug_in_block.Goals as goal
 
 pub returns-in_ok-debug_over-in-Ok-Some : goal.returns-in_ok-debug_over-in-Ok-Some

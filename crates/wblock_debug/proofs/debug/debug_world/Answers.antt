@@ -1,4 +1,4 @@
-use Rattle.std.proofs.Common.{◌≡◌, IsTrue, List, Some, length, slice_get, refl, ap, sym, subst, inl, inr, ◌∙◌}
+use Rattle.std.proofs.Common.{◌≡◌, IsTrue, List, Some, length, slice_get, string_bytes, refl, ap, sym, subst, inl, inr, ◌∙◌}
 use Rattle.std.proofs.lemmas.Option.{slice_get_read, slice_get_past}
 use Rattle.std.proofs.lemmas.Result.{err_from_is_err_and}
 use Rattle.spec_block.specs.Worlds.{Call}
@@ -8,6 +8,13 @@ use Rattle.wblock_io.specs.Holding.{Holding}
 use Rattle.wblock_line.specs.FaultLaws.{of_file_weaker}
 use Rattle.wblock_debug.specs.Debugs.{TellsListed, IsBlockName, IsNextRead}
 use Rattle.wblock_debug.proofs.debug.debug_world.Goals as goal
+
+pub returns-in-Refused-clause-answers : goal.returns-in-Refused-clause-answers
+returns-in-Refused-clause-answers g c = λ t. inl (record {
+  line = string_bytes c.in-Refused.line;
+  why = subst (λ inputs. Gives (g.F.Files.holds c.args.files.now) c.args.task.now.world.now c.args.task.now.calls.now inputs) c.in-Refused.is (c.in_ok-world.ensures.gives t);
+  told = c.in_ok-refused-in-Refused.ensures.told;
+})
 
 pub returns-in_default-clause-answers : goal.returns-in_default-clause-answers
 returns-in_default-clause-answers g c = λ t.

@@ -1,6 +1,6 @@
 use Rattle.std.proofs.Common.{◌≡◌, ◌+◌, length, map, sym, ap, ◌∙◌, arith, length-append}
 use Rattle.std.proofs.lemmas.List.{length-map}
-use Rattle.spec_syntax.specs.Syntax.{Global, Module}
+use Rattle.spec_modules.specs.Syntax.{Global, Module}
 use Rattle.spec_typing.specs.Modules.{imported_globals}
 use Rattle.module_tree.specs.ModuleView.{global_type_view, global_view}
 use Rattle.module_tree.specs.Modules.{module_view}

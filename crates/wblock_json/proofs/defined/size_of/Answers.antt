@@ -1,6 +1,6 @@
 use Rattle.std.proofs.Common.{◌≡◌, Some, option_map, sym, ap, ◌∙◌}
-use Rattle.spec_syntax.specs.Syntax.{Func}
-use Rattle.spec_syntax.specs.Shape.{size}
+use Rattle.spec_modules.specs.Syntax.{Func}
+use Rattle.spec_modules.specs.Shape.{size}
 use Rattle.module_tree.specs.ModuleView.{func_view}
 use Rattle.wblock_json.proofs.defined.size_of.Goals as goal
 

@@ -1,5 +1,5 @@
 use Rattle.std.proofs.Common.{subst, sym}
-use Rattle.spec_binary.specs.Spells.{Spells}
+use Rattle.spec_modules.specs.Spells.{Spells}
 use Rattle.module_tree.specs.Modules.{module_view}
 use Rattle.wblock_line.proofs.modules.read_valid.Goals as goal
 

@@ -1,26 +1,7 @@
-use Rattle.std.proofs.Common.{◌≡◌, ℕ, List, ◌++◌, IfOk, ap, map, subst, arith, length, ◌∙◌}
-use Rattle.std.proofs.lemmas.List.{map-append, length-append, length-map}
-use Rattle.spec_block.specs.Worlds.{Contract}
+use Rattle.std.proofs.Common.{◌≡◌, IfOk, subst}
+use Rattle.spec_block.specs.Worlds.{World}
 use Rattle.spec_block.specs.Bytes.{world_bytes}
-use Rattle.world.specs.Views.{contract_view, world_view}
-use Rattle.wblock_modules.specs.Deploys.{extended}
-use Rattle.wblock_modules.proofs.Onto.{extended_bytes}
 use Rattle.wblock_modules.proofs.deploy.encode_extended.Goals as goal
 
-pub new-world-requires : goal.new-world-requires
-new-world-requires c =
-    let mapped = length-map c.into_parts-all.result.0.items contract_view in
-    let parts = ap length c.into_parts-all.ensures.contracts in
-    let joined = length-append c.into_parts-all.result.0.items c.args.contracts.items in
-    let all = ap length c.in_ok-append.ensures.items in
-    omega (arith, c.requires, mapped, parts, joined, all)
-
 pub returns : goal.returns
-returns c =
-    let behind = map contract_view c.args.contracts.items in
-    let mapped = map-append contract_view c.into_parts-all.result.0.items c.args.contracts.items in
-    let all = ap (map contract_view) c.in_ok-append.ensures.items in
-    let contracts = c.new-world.ensures.contracts ∙ (all ∙ (mapped ∙ ap (λ (xs : List Contract). xs ++ behind) c.into_parts-all.ensures.contracts)) in
-    let cells = c.new-world.ensures.cells ∙ c.into_parts-all.ensures.cells in
-    let same : world_bytes (world_view c.new-world.result) ≡ world_bytes (extended (world_view c.args.base) behind) = extended_bytes (world_view c.new-world.result) (world_view c.args.base) behind contracts cells in
-    subst (λ (bs : List ℕ). IfOk c.encode_world.result (λ bytes. bytes.items ≡ bs)) same c.encode_world.ensures
+returns c = subst (λ (w : World). IfOk c.encode_world.result (λ bytes. bytes.items ≡ world_bytes w)) c.in_ok-world.ensures c.encode_world.ensures

@@ -1,5 +1,5 @@
 use Rattle.std.proofs.Common.{◌≡◌, ℕ, List, ◌++◌, length, ap, ◌∙◌, arith}
-use Rattle.spec_binary.specs.Shortest.{shortest}
+use Rattle.spec_modules.specs.Shortest.{shortest}
 use Rattle.module_tree.specs.Modules.{module_view}
 use Rattle.link.specs.Parts.{tree_of}
 use Rattle.world.proofs.WorldBytes.{counted_text}

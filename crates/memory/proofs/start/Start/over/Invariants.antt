@@ -1,7 +1,7 @@
 use Rattle.std.proofs.Common.{◌≡◌, ◌≤◌, ◌<◌, ◌*◌, ◌-◌, ℕ}
 use Rattle.std.specs.Prelude.{None}
 use Rattle.std.specs.Option.{option_or}
-use Rattle.spec_syntax.specs.Profile.{page_size, page_limit}
+use Rattle.spec_modules.specs.Profile.{page_size, page_limit}
 use Rattle.memory.specs.Runs.{IsNext}
 use Rattle.memory.specs.Start.{stands}
 use Rattle.memory.proofs.start.Start.over.Given as goal

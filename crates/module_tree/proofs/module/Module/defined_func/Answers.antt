@@ -1,5 +1,5 @@
 use Rattle.std.proofs.Common.{◌-◌, ap, ◌∙◌, arith}
-use Rattle.spec_syntax.specs.Limits.{first}
+use Rattle.spec_modules.specs.Limits.{first}
 use Rattle.module_tree.specs.Modules.{module_view}
 use Rattle.module_tree.proofs.Nodes.{lent_view, lent_numbered, defined_at}
 use Rattle.module_tree.proofs.module.Module.defined_func.Goals as goal

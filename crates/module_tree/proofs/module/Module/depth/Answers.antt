@@ -1,5 +1,5 @@
 use Rattle.std.proofs.Common.{◌≡◌, ◌<◌, length, get_or, max, arith, rules}
-use Rattle.spec_syntax.specs.Shape.{instrs_depth}
+use Rattle.spec_modules.specs.Shape.{instrs_depth}
 use Rattle.module_tree.specs.View.{instrs_view}
 use Rattle.module_tree.specs.Modules.{module_view}
 use Rattle.module_tree.proofs.ModuleWalks.{deepest_next, deepest_rest}

@@ -1,5 +1,5 @@
 use Rattle.std.proofs.Common.{subst, sym}
-use Rattle.spec_syntax.specs.Syntax.{Module}
+use Rattle.spec_modules.specs.Syntax.{Module}
 use Rattle.spec_typing.specs.Modules.{ModuleTyped}
 use Rattle.typing.proofs.valid.Valid.copy_in.Goals as goal
 

@@ -1,5 +1,0 @@
-use Rattle.spec_numeric.proofs.Bytes.{loads_give}
-use Rattle.spec_numeric.proofs.loads_give_what_was_stored.Goals as goal
-
-pub returns : goal.returns
-returns c = loads_give

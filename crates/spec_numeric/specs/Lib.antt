@@ -1,4 +1,0 @@
-pub mod Numbers
-pub mod Operators
-pub mod Storage
-pub mod Memory

@@ -1,5 +1,0 @@
-pub mod Behind
-pub mod Found
-pub mod Touches
-pub mod Calls
-pub mod Following

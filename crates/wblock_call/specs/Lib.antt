@@ -1,0 +1,3 @@
+pub mod Calling
+pub mod Effects
+pub mod EffectsJson

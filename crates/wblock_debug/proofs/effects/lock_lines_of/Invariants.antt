@@ -1,7 +1,0 @@
-use Rattle.std.proofs.Common.{◌≡◌, ◌++◌, drop, string_bytes}
-use Rattle.lock_profile.specs.Groups.{pairs}
-use Rattle.wblock_debug.specs.Effects.{lock_lines}
-use Rattle.wblock_debug.proofs.effects.lock_lines_of.Given as goal
-
-abbrev pub invariant-loop-held : goal.invariant-loop-held
-invariant-loop-held l = string_bytes l.text ++ lock_lines (pairs (drop l.held-index l.locks)) ≡ lock_lines (pairs l.locks)

@@ -1,0 +1,11 @@
+use Rattle.std.proofs.Common.{string_bytes, subst, sym}
+use Rattle.serde_json.specs.Data.{Data}
+use Rattle.wblock_json.specs.Json.{IsFlat, IsJson, IsLineOf}
+use Rattle.wblock_debug.proofs.FlatStates.{where_flat}
+use Rattle.wblock_debug.proofs.states_json.where_json_of.Goals as goal
+
+pub value_line-requires : goal.value_line-requires
+value_line-requires c = subst (IsFlat 127) (sym c.in_ok-value.ensures) (where_flat _)
+
+pub returns : goal.returns
+returns c = subst (λ (d : Data). IsLineOf (IsJson d) (string_bytes c.in_ok-text.text)) c.in_ok-value.ensures c.in_ok-text.ensures

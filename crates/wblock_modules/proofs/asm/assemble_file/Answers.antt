@@ -1,0 +1,13 @@
+use Rattle.std.proofs.Common.{List, ℕ, subst}
+use Rattle.std.proofs.lemmas.Result.{IfOk-weaker}
+use Rattle.wblock_modules.specs.Assembles.{IsAnswer}
+use Rattle.wblock_modules.proofs.asm.assemble_file.Goals as goal
+
+pub returns-clause-answers : goal.returns-clause-answers
+returns-clause-answers g c = IfOk-weaker c.in_form.result _ _ (λ a told t. record {
+  bytes = c.in_ok-bytes.bytes.items;
+  held = c.in_ok-bytes.ensures.bytes t;
+  plain = c.in_ok-plain.plain;
+  answers = subst (λ (bytes : List ℕ). IsAnswer c.args.json bytes c.args.target.now c.in_ok-plain.plain) c.as_slice.ensures.value c.in_ok-plain.ensures.answer;
+  told = told;
+}) c.in_form.ensures.told

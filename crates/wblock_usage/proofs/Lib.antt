@@ -1,0 +1,3 @@
+pub mod Colons
+pub mod Lists
+pub mod Spots

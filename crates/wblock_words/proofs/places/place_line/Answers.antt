@@ -1,6 +1,0 @@
-use Rattle.std.proofs.Common.{decimal, string_bytes}
-use Rattle.wblock_words.proofs.Beginning.{begins}
-use Rattle.wblock_words.proofs.places.place_line.Goals as goal
-
-pub returns : goal.returns
-returns c = begins (λ s. string_bytes s) c.args.name.now (decimal c.args.number) c.args.said.now c.format.result c.format.ensures.ok
