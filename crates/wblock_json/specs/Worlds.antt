@@ -15,9 +15,9 @@ use Rattle.wblock_calls.specs.Numbers.{number_text}
 use Rattle.wblock_json.specs.Json.{IsJson, array_of, hex_data, numbered, object_of, small}
 use Rattle.wblock_json.specs.Modules.{module_members}
 
--- a contract by its number, with what is told of its module; the bytes are those of the module's shortest spelling
+-- a contract by its number, with what is told of its module; the bytes are those of the module's shortest spelling, which carries no names of functions
 unfoldable pub contract_data : ℕ → Contract → Data
-contract_data n c = object_of ((codes "number", small n) ∷ module_members (length (shortest c.tree)) c.tree)
+contract_data n c = object_of ((codes "number", small n) ∷ module_members (length (shortest c.tree)) [] c.tree)
 
 -- a key or a number of a cell: the string of its decimal digits, signed or not
 abbrev pub cell_number : (signed : Bool) → ℕ → Data

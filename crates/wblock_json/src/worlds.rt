@@ -28,7 +28,7 @@ fn contract_of(alloc: Global, number: u32, contract: &Deployed<Global>) -> Resul
     let size = shortest_size(alloc, contract.module())?;
     let mut map = Map::new(alloc);
     put(&mut map, alloc, "number", Json::from(number))?;
-    put_module(alloc, &mut map, size, contract.module())?;
+    put_module(alloc, &mut map, size, &[], contract.module())?;
     Ok(Json::from(map))
 }
 

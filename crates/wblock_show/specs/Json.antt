@@ -1,5 +1,5 @@
 -- What `show --json` answers.
-use Rattle.std.specs.Prelude.{◌≡◌, ◌⊎◌, ℕ, Bool, true, Option, Some, None, List, [], length}
+use Rattle.std.specs.Prelude.{◌≡◌, ◌⊎◌, ℕ, Bool, true, Option, Some, None, List, []}
 use Rattle.spec_modules.specs.Syntax.{Module}
 use Rattle.spec_block.specs.Worlds.{Block, Call, World}
 use Rattle.spec_block.specs.Bytes.{SpellsBlock, SpellsWorld}
@@ -61,7 +61,7 @@ TellsFileBlock holds task a = TellsCallsRefusal holds task.calls a ⊎ TellsFile
 pub record TellsModuleJson (bytes text : List ℕ) : Type 0 where
   pub tree : Module
   pub valid : IsValidOf bytes tree
-  pub text_is : IsLineOf (IsModuleJson (length bytes) tree) text
+  pub text_is : IsLineOf (IsModuleJson bytes tree) text
 
 -- the bytes spell a world, and the text is its line
 pub record TellsWorldJson (signed : Bool) (bytes text : List ℕ) : Type 0 where

@@ -3,10 +3,10 @@ use Rattle.std.proofs.lemmas.Result.{IfOk-weaker}
 use Rattle.serde_json.specs.Data.{Data}
 use Rattle.wblock_json.specs.Json.{IsFlat, IsJson}
 use Rattle.wblock_json.proofs.FlatModules.{module_flat}
-use Rattle.wblock_json.proofs.modules.module_json.Goals as goal
+use Rattle.wblock_json.proofs.modules.named_json.Goals as goal
 
 pub text_of-requires : goal.text_of-requires
-text_of-requires c = subst (IsFlat 127) (sym c.in_ok-value.ensures) (module_flat _ _)
+text_of-requires c = subst (IsFlat 127) (sym c.in_ok-value.ensures) (module_flat _ _ _)
 
 pub returns : goal.returns
 returns c =

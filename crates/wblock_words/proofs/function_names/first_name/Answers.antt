@@ -1,7 +1,7 @@
 use Rattle.std.proofs.Common.{◌≡◌, ◌+◌, ◌≤◌, ◌∷◌, sym, ap, ◌∙◌, subst, arith}
 use Rattle.wblock_words.specs.Names.{IsFrom, Rises, name_among, named_of, names_in}
-use Rattle.wblock_contents.proofs.Named.{from_less, from_on, name_here, no_name}
-use Rattle.wblock_contents.proofs.defined.first_name.Goals as goal
+use Rattle.wblock_words.proofs.Named.{from_less, from_on, name_here, no_name}
+use Rattle.wblock_words.proofs.function_names.first_name.Goals as goal
 
 pub returns-then-first-number : goal.returns-then-first-number
 returns-then-first-number c =

@@ -1,6 +1,6 @@
 use Rattle.std.proofs.Common.{◌≡◌, ℕ, ◌≤◌, length}
 use Rattle.wblock_words.specs.Names.{Rises, name_among, names_in}
-use Rattle.wblock_contents.proofs.defined.names_from.Given as goal
+use Rattle.wblock_words.proofs.function_names.names_from.Given as goal
 
 abbrev pub invariant-loop-rest : goal.invariant-loop-rest
 invariant-loop-rest l = record {
