@@ -57,13 +57,13 @@ fn func_of(
     let func_type = type_at_index(alloc, &tree.types, func.type_index)?;
     let locals = func.locals.len();
     let instructions = size_of(tree, number, func);
-    let name = name_or_null(alloc, name)?;
+    let called = name_or_null(alloc, name)?;
     json!(in alloc; {
         "index": number,
         "type": func_type,
         "locals": locals,
         "instructions": instructions,
-        "name": name,
+        "name": called,
     })
 }
 
