@@ -1,6 +1,5 @@
 -- Commands that are given one after another.
-use Rattle.std.proofs.Common.{◌≡◌, ℕ, ◌+◌, ◌<◌, Bool, true, List, [], ◌∷◌, ◌++◌, length, take, get_or, sym, ap, ◌∙◌, subst, string_bytes}
-use Rattle.std.proofs.lemmas.List.{take_more}
+use Rattle.std.proofs.Common.{◌≡◌, ℕ, Bool, true, List, [], ◌∷◌, ◌++◌, sym, subst, string_bytes}
 use Rattle.debugger.specs.SessionView.{SessionView, IsSessionView}
 use Rattle.debugger.specs.declared.session.Refusal.{Refusal}
 use Rattle.wblock_usage.specs.declared.debugging.Command.{Command}
@@ -20,7 +19,3 @@ adds_refusal json c s t old new r line why stays is told pushed = λ first given
     (subst (λ (text : List ℕ). IsPrinted json first (given ++ c ∷ []) s new.refused text) (sym pushed)
     (subst (λ (b : Bool). IsPrinted json first (given ++ c ∷ []) s b (string_bytes old.text ++ line)) (sym told)
     (refused given s old.refused (string_bytes old.text) c r line h why is)))
-
-pub one_more : (json : Bool) (first : SessionView) (commands : List Command) (i : ℕ) (d c : Command) (s : SessionView) (b : Bool) (text : List ℕ) → i < length commands → c ≡ get_or commands i d → IsPrinted json first (take i commands ++ c ∷ []) s b text → IsPrinted json first (take (i + 1) commands) s b text
-one_more json first commands i d c s b text lt is h =
-    subst (λ (cs : List Command). IsPrinted json first cs s b text) (ap (λ x. take i commands ++ x ∷ []) is ∙ sym (take_more commands i d lt)) h
