@@ -1,5 +1,5 @@
 use Rattle.std.proofs.Common.{length}
-use Rattle.wblock_line.proofs.perform.+write_files.Given as goal
+use Rattle.wblock_line.proofs.perform.+write_drafts.Given as goal
 
-abbrev pub decreases-write_files : goal.decreases-write_files
-decreases-write_files g l = length l.writes.now
+abbrev pub decreases-write_drafts : goal.decreases-write_drafts
+decreases-write_drafts g l = length l.writes.now
