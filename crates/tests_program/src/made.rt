@@ -40,17 +40,24 @@ pub struct Contents {
     files: Vec<Kept>,
     steps: Vec<Step>,
     left: Option<u64>,
+    error: ErrorKind,
 }
 
 impl Contents {
-    /// No files. The call after so many others fails, if a number is given.
+    /// No files. The call after so many others fails, if a number is given, since no space is left.
     pub fn new(alloc: Global, left: Option<u64>) -> Contents {
         Contents {
             alloc,
             files: Vec::new(alloc),
             steps: Vec::new(alloc),
             left,
+            error: ErrorKind::StorageFull,
         }
+    }
+
+    /// The call that is to fail is refused memory.
+    pub fn refuse_memory(&mut self) {
+        self.error = ErrorKind::OutOfMemory;
     }
 
     /// Puts a file there, which a run that lives has claimed or not.
@@ -96,7 +103,7 @@ impl Contents {
             None => Ok(()),
             Some(0) => {
                 self.left = None;
-                Err(io::Error::from(ErrorKind::StorageFull))
+                Err(io::Error::from(self.error))
             }
             Some(n) => {
                 self.left = Some(n - 1);

@@ -1,4 +1,4 @@
-//! A file is replaced by a temporary one, at each failure in turn.
+//! A file is replaced by a temporary one, and two files by two, at each failure in turn.
 
 use crate::assertions::{equal, holds};
 use crate::made::Step::{Make, Put, Rename, Sync, SyncFolder};
@@ -8,6 +8,7 @@ use std::cell::RefCell;
 use std::rc::Rc;
 use std::test::Fail;
 use wblock_io::{Disk, Files, write_file};
+use wblock_line::{Fault, Status, Write, write_files};
 
 /// What replaces a file by one of three bytes: it is written down to the disk before it is renamed, and the folder after that.
 const REPLACING: &[Step] = &[Make, Put, Put, Sync, Rename, SyncFolder];
@@ -147,5 +148,109 @@ fn keeps_nothing_of_a_draft_that_is_abandoned(rt: HostRuntime) -> Result<(), Fai
     let contents = taken(contents)?;
     let is_old = abandoned && contents.holds("w", Some(OLD)) && is_clean(&contents);
     holds(&rt, &"the old file", is_old);
+    Ok(())
+}
+
+/// Two files that are written together.
+const BOTH: &[&str] = &["v", "w"];
+
+/// What replaces both: each is whole before the first is renamed.
+const REPLACING_BOTH: &[Step] = &[
+    Make, Put, Put, Make, Put, Put, Sync, Rename, SyncFolder, Sync, Rename, SyncFolder,
+];
+
+/// How the write of both ends; None where it is not tried.
+fn both_written(alloc: Global, contents: &Rc<RefCell<Contents>>) -> Option<Status> {
+    let rt = (Made(contents.clone().ok()?), alloc);
+    let mut writes = Vec::new(alloc);
+    for name in BOTH {
+        let bytes = NEW.to_vec(alloc).ok()?;
+        writes.push(Write { name: *name, bytes }).ok()?;
+    }
+    match write_files(&mut Disk::new(&rt), writes.as_slice()) {
+        Ok(()) => Some(Status::Done),
+        Err(Fault::File(_, _)) => Some(Status::File),
+        Err(Fault::NoMemory) => Some(Status::Memory),
+    }
+}
+
+/// How many files were renamed.
+fn renamed(contents: &Contents) -> u64 {
+    let mut count = 0u64;
+    for step in contents.steps() {
+        if *step == Rename {
+            count = count.saturating_add(1);
+        }
+    }
+    count
+}
+
+/// Whether the first so many of both are new and the others old, with nothing beside them.
+fn are_new(contents: &Contents, count: u64) -> bool {
+    let first = if count > 0 { NEW } else { OLD };
+    let second = if count > 1 { NEW } else { OLD };
+    contents.holds("v", Some(first))
+        && contents.holds("w", Some(second))
+        && contents.holds("v.part-0", None)
+        && is_clean(contents)
+}
+
+/// How the write of both ends where the call after so many others is refused memory, if it is one of theirs, and whether the files are as they have to be:
+/// both new where it is done, and both old where it says that memory was refused. None: there are no more calls.
+fn ending(alloc: Global, calls: u64) -> Result<Option<(Status, bool)>, Fail> {
+    let mut contents = Contents::new(alloc, Some(calls));
+    contents.refuse_memory();
+    for name in BOTH {
+        contents.hold(*name, OLD, false)?;
+    }
+    let contents = Rc::new(alloc, RefCell::new(contents))?;
+    let written = both_written(alloc, &contents);
+    let contents = taken(contents)?;
+    let Some(status) = written else {
+        return Ok(None);
+    };
+    if contents.is_to_fail() {
+        return Ok(None);
+    }
+    let count = renamed(&contents);
+    let is_told = match status {
+        Status::Done => count == 2,
+        Status::Memory => count == 0,
+        _ => true,
+    };
+    Ok(Some((status, is_told && are_new(&contents, count))))
+}
+
+#[test]
+fn writes_no_file_where_memory_is_refused_to_one(rt: HostRuntime) -> Result<(), Fail> {
+    let alloc = rt.alloc();
+    let mut done = 0u64;
+    let mut failed = 0u64;
+    let mut refused = 0u64;
+    for calls in 0..40 {
+        let Some((status, is_right)) = ending(alloc, calls)? else {
+            break;
+        };
+        holds(&rt, &("calls", calls), is_right);
+        match status {
+            Status::Memory => refused = refused.saturating_add(1),
+            Status::File => failed = failed.saturating_add(1),
+            _ => done = done.saturating_add(1),
+        }
+    }
+    // of each file a look, two openings and two puts; the folder, two syncs and the renaming; and three looks that need not succeed
+    equal(&rt, &"refused", &(refused, failed, done), &(10, 8, 6));
+    Ok(())
+}
+
+#[test]
+fn writes_all_files_whole_before_one_is_renamed(rt: HostRuntime) -> Result<(), Fail> {
+    let alloc = rt.alloc();
+    let contents = Rc::new(alloc, RefCell::new(Contents::new(alloc, None)))?;
+    let written = both_written(alloc, &contents);
+    let contents = taken(contents)?;
+    let is_new = written == Some(Status::Done) && are_new(&contents, 2);
+    holds(&rt, &"the new files", is_new);
+    equal(&rt, &"the steps", &contents.steps(), &REPLACING_BOTH);
     Ok(())
 }

@@ -1,4 +1,5 @@
 mod Beginning
+mod Drafting
 mod FlatObjects
 mod Leaving
 mod Saying
