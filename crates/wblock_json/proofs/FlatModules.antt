@@ -17,10 +17,9 @@ use Rattle.spec_block.specs.Bytes.{world_bytes}
 use Rattle.module_tree.specs.Readers.{imported_funcs}
 use Rattle.world.specs.Views.{is_cell_of}
 use Rattle.serde_json.specs.Data.{Data, boolean, string}
-use Rattle.wblock_calls.specs.Numbers.{number_text}
 use Rattle.wblock_json.specs.Json.{IsFlat, array_of, hex_data, maybe, numbered, small}
 use Rattle.wblock_json.specs.Modules.{export_data, export_index, export_type, export_word, func_data, func_type_data, global_data, global_type_data, import_data, import_type, import_word, limits_data, module_data, module_members, type_data}
-use Rattle.wblock_json.specs.Worlds.{cell_data, cells_data, cells_of, contract_data, world_data}
+use Rattle.wblock_json.specs.Worlds.{cell_data, cell_number, cells_data, cells_of, contract_data, world_data}
 use Rattle.wblock_json.proofs.Flat.{array_flat, boolean_flat, deeper, map_flat, maybe_flat, numbered_flat, object_flat, small_flat, string_flat}
 
 -- ---- modules
@@ -133,7 +132,7 @@ contract_flat n c =
 cell_flat : (signed : Bool) (c : Lock × ℕ) → IsFlat 1 (cell_data signed c)
 unfolding cell_data
 cell_flat signed c =
-    let members : List (List ℕ × Data) = (codes "contract", small c.0.contract) ∷ (codes "key", string (number_text signed c.0.key)) ∷ (codes "value", string (number_text signed c.1)) ∷ [] in
+    let members : List (List ℕ × Data) = (codes "contract", small c.0.contract) ∷ (codes "key", cell_number signed c.0.key) ∷ (codes "value", cell_number signed c.1) ∷ [] in
     object_flat 0 1 members (omega arith) (small_flat 0 _, (string_flat 0 _, (string_flat 0 _, tt)))
 
 kind_flat : (signed : Bool) (kind : Kind) (cells : List (Lock × ℕ)) → IsFlat 2 (cells_of signed kind cells)

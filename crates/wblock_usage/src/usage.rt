@@ -172,7 +172,8 @@ fn call<'a>(alloc: Global) -> Result<Command<'a>, AllocError> {
                 "The arguments, each `i32:N` or `i64:N` with N in signed decimal",
             ),
         )?
-        .arg(switch(alloc, JSON))
+        .arg(switch(alloc, JSON))?
+        .arg(switch(alloc, SIGNED))
 }
 
 fn debug<'a>(alloc: Global) -> Result<Command<'a>, AllocError> {
@@ -194,6 +195,7 @@ fn debug<'a>(alloc: Global) -> Result<Command<'a>, AllocError> {
             "The fuel with which BLOCK is judged, 0 to 18446744073709551615: the calls before CALL run for at most this; if not given, it is the least that its calls need",
         ))?
         .arg(switch(alloc, JSON))?
+        .arg(switch(alloc, SIGNED))?
         .arg(switch(alloc, QUIET))
 }
 
