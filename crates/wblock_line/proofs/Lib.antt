@@ -1,5 +1,4 @@
 mod Beginning
-mod Drafting
 mod FlatObjects
 mod Leaving
 mod Saying

@@ -3,8 +3,8 @@ use Rattle.byte_sinks.specs.Putting.{IsCutShort}
 use Rattle.wblock_line.specs.Answers.{Wrote, IsSaid, write_of}
 use Rattle.wblock_line.proofs.perform.carry_out.Goals as goal
 
-pub returns-in-Refused-clause-explained : goal.returns-in-Refused-clause-explained
-returns-in-Refused-clause-explained g c = λ r t.
+pub returns-clause-explained : goal.returns-clause-explained
+returns-clause-explained g c = λ r t.
     rw c.in-Refused.is
     (subst (λ (why : List ℕ). IsSaid (why ++ 10 ∷ []) (g.E.Sink.told c.args.err.now) (g.E.Sink.told c.print_refusal.new.err) (g.E.Sink.failures c.args.err.now) (g.E.Sink.failures c.print_refusal.new.err)) c.as_str-in-Refused-2.ensures.value (c.print_refusal.ensures.explained r t))
 
@@ -21,8 +21,8 @@ returns-in-Ok-clause-failing g c = λ d. (
   c.print_text.ensures.said d,
 )
 
-pub returns-in-Refused-clause-failing : goal.returns-in-Refused-clause-failing
-returns-in-Refused-clause-failing g c = λ d. (
+pub returns-clause-failing : goal.returns-clause-failing
+returns-clause-failing g c = λ d. (
   codes "stdout",
   rw c.in-Refused.is (inr (record {
     output_is = refl;

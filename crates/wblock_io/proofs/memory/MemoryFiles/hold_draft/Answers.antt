@@ -6,4 +6,4 @@ use Rattle.wblock_io.proofs.memory.MemoryFiles.hold_draft.Goals as goal
 pub returns-in-Ok-clause-kept : goal.returns-in-Ok-clause-kept
 returns-in-Ok-clause-kept c =
     first_kept c.args.self.now.drafts.items c.add.new.self.drafts.items c.remove-draft.result c.args.name.now (held_by c.args.self.now) (held_by c.add.new.self) c.remove-draft.ensures.value
-    (ap (λ d. d.items) c.in-Ok.ensures.others ∙ c.remove-draft.ensures.by_index.1.1) c.in-Ok.ensures.held
+    (ap (λ d. d.items) c.in-Ok.ensures.others ∙ c.remove-draft.ensures.by_index.2) c.in-Ok.ensures.held
