@@ -1,6 +1,6 @@
 //! The files of the machine, of which nothing is told.
 
-ghost use Rattle.std.specs.Prelude.{false, None, []};
+ghost use Rattle.std.specs.Prelude.{◌≤◌, false, None, [], IfOk, length};
 ghost use Rattle.wblock_io.specs.Holding.{IsFailed, IsNoted};
 
 use crate::cause::Cause;
@@ -36,7 +36,9 @@ struct Draft<F> {
 
 impl<F: Write> Draft<F> {
     /// Puts the first bytes at the end of the file, where it is open, and says how many.
-    fn put_some(&mut self, bytes: &[u8]) -> io::Result<usize> {
+    fn put_some(&mut self, bytes: &[u8]) -> io::Result<usize>
+        ensures { IfOk result (λ n. n ≤ length bytes.now) }
+    {
         match &mut self.file {
             Some(file) => file.write(bytes),
             None => Err(io::Error::from(ErrorKind::NotFound)),

@@ -32,8 +32,8 @@ pub enum WriteFault {
 
 /// Files that are read whole and written whole. What a file is to hold is put into a draft, piece by piece, and the file holds all of it at once when
 /// the draft is kept: at every moment it is the old file or the new one. There may be several drafts: bytes are put into the last one, and the first
-/// one is kept first. All that a draft needs of memory it has before it is kept. Each failure is noted with the file's name, and a call that fails, or is
-/// refused memory, changes no file.
+/// one is kept first. Each failure is noted with the file's name. Want of memory is no failure, and is told before a draft is kept. A call that fails, or
+/// is refused memory, changes no file.
 pub trait Files {
     /// Whether it is known what the files hold: it is not known of those of the machine.
     ghost tells: { Bool };
