@@ -6,7 +6,7 @@ use std::alloc::Global;
 use std::str::from_utf8;
 use wblock_debug::debugging_of;
 use wblock_line::split_words;
-use wblock_usage::debugging::{command_of, commands_of};
+use wblock_usage::debugging::{Command, command_of, commands_of};
 
 /// The command that a word is, or None.
 fn command(alloc: Global, word: &str) -> Option<String> {
@@ -21,6 +21,11 @@ fn commands(alloc: Global, line: &str) -> Option<String> {
     format!(in alloc; "{commands:?}\n").ok()
 }
 
+/// Commands as they are written for a programmer, or None.
+fn commands_text(alloc: Global, commands: &[Command]) -> Option<String> {
+    format!(in alloc; "{commands:?}").ok()
+}
+
 /// What a line asks to debug, or None.
 fn debugging(alloc: Global, line: &str) -> Option<String> {
     let words: Vec<&str> = line.split(' ').collect(alloc).ok()?;
@@ -28,14 +33,14 @@ fn debugging(alloc: Global, line: &str) -> Option<String> {
     let Some(asked) = debugging_of(alloc, &line).ok()? else {
         return "None\n".to_string(alloc).ok();
     };
-    let commands = asked.commands.as_slice();
-    let block = asked.block;
-    let fuel = asked.fuel;
-    format!(in alloc;
-        "world {} calls {} call {} {commands:?} block {block:?} fuel {fuel:?}\n",
+    let call = format!(in alloc;
+        "world {} calls {} call {}",
         asked.world, asked.calls, asked.call
     )
-    .ok()
+    .ok()?;
+    let place = format!(in alloc; "block {:?} fuel {:?}", asked.block, asked.fuel).ok()?;
+    let commands = commands_text(alloc, asked.commands.as_slice())?;
+    format!(in alloc; "{call} {commands} {place}\n").ok()
 }
 
 /// What words are as commands of the debugger, or what a line of words asks of it, or what can be measured; None where there is no such kind, or memory is

@@ -3,7 +3,7 @@ use Rattle.std.specs.Prelude.{◌≡◌, ℕ, ◌⊎◌, List, [], ◌++◌, str
 use Rattle.wblock_io.specs.Holding.{Holding, Failing, IsFailed}
 use Rattle.wblock_line.specs.declared.answer.Answer.{Answer}
 use Rattle.wblock_line.specs.declared.perform.Status.{Status}
-use Rattle.wblock_line.specs.Answers.{EndsLine, Upshot, upshot_of, status_of, writes_of, text_of, Wrote, IsFailing, IsSaid}
+use Rattle.wblock_line.specs.Answers.{EndsLine, upshot_of, status_of, writes_of, text_of, Wrote, IsFailing, IsSaid}
 use Rattle.wblock_commands.specs.Stored.{ShowsStored}
 use Rattle.wblock_usage.specs.Texts.{TellsText}
 use Rattle.wblock_modules.specs.Assembles.{Assembles}
@@ -20,14 +20,6 @@ use Rattle.wblock_commands.specs.declared.command.Command.{Command}
 use Rattle.wblock_commands.specs.declared.command.Command.TheVariants.{Stored, Help, Version, Asm, Text, Check, Deploy, Mine, Validate, Call, Debug, Show}
 use Rattle.wblock_commands.specs.Deploying.{MayReplace, IsTaken, DeploysFree, IsNextToDeploy}
 
--- what a command over a world comes to
-abbrev pub ComesTo : Command → Holding → Upshot → Type 0
-ComesTo (Deploy task) holds u = DeploysFree task holds u
-ComesTo (Mine task) holds u = Mines holds task u
-ComesTo (Validate task) holds u = Validates holds task u
-ComesTo (Call task) holds u = Calls holds task u
-ComesTo c holds u = ⊥
-
 -- what a command comes to over files
 abbrev pub Answers : Command → Holding → Answer → Type 0
 Answers Stored holds answer = ShowsStored answer
@@ -36,10 +28,10 @@ Answers Version holds answer = TellsText answer
 Answers (Asm text target json) holds answer = Assembles json holds text.now target.now answer
 Answers (Text source target unchecked json) holds answer = WritesText unchecked json holds source.now target.now answer
 Answers (Check target heap json) holds answer = Checks json holds target.now answer
-Answers (Deploy task) holds answer = ComesTo (Deploy task) holds (upshot_of answer)
-Answers (Mine task) holds answer = ComesTo (Mine task) holds (upshot_of answer)
-Answers (Validate task) holds answer = ComesTo (Validate task) holds (upshot_of answer)
-Answers (Call task) holds answer = ComesTo (Call task) holds (upshot_of answer)
+Answers (Deploy task) holds answer = DeploysFree task holds (upshot_of answer)
+Answers (Mine task) holds answer = Mines holds task (upshot_of answer)
+Answers (Validate task) holds answer = Validates holds task (upshot_of answer)
+Answers (Call task) holds answer = Calls holds task (upshot_of answer)
 Answers (Debug task) holds answer = Debugs holds task answer
 Answers (Show task) holds answer = ShowsNamed holds task answer
 
