@@ -1,6 +1,6 @@
 #!/usr/bin/env bash
 # Runs the session of each example with the built program, and compares what is printed and each status; then reads by other programs what is shown of each module,
-# world and block that the sessions left (shown.py); then runs the program over files that fail, and over files that are there before they are written (files.sh).
+# world and block that the sessions left (shown.py); then two nodes through pipes (node/try.py), and the program over files that fail, and over files that are there before they are written (files.sh).
 #
 #   examples/run.sh [PROGRAM]     PROGRAM: crates/wblock/out/wblock of this repository if it is not given
 #
@@ -81,6 +81,7 @@ for session in "$here"/*/session.txt; do
     run_session "$name"
 done
 if "$here/shown.py" "$program" "$work"; then passed=$((passed + 1)); else failed=$((failed + 1)); fi
+if "$here/node/try.py" "$program"; then passed=$((passed + 1)); else failed=$((failed + 1)); fi
 if "$here/files.sh" "$program"; then passed=$((passed + 1)); else failed=$((failed + 1)); fi
 echo "$passed passed, $failed failed"
 [ "$failed" = 0 ] && [ "$passed" != 0 ]

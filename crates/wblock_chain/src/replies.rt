@@ -1,0 +1,78 @@
+//! What a session answers to a line, exactly.
+
+ghost use Rattle.std.specs.Prelude.{◌≡◌, ◌++◌, true, IfOk, OnOk, option_map, string_bytes};
+ghost use Rattle.wblock_chain.specs.Replies.{block_line, digest_line, marked, number_of, reply};
+
+use std::alloc::{AllocError, Global};
+use wblock_line::Status;
+
+/// The number of a status.
+fn number_of(status: Status) -> u8
+    ensures { result ≡ number_of status }
+{
+    match status {
+        Status::Done => 0,
+        Status::Refused => 1,
+        Status::Usage => 2,
+        Status::File => 3,
+        Status::Memory => 4,
+    }
+}
+
+/// Puts each line of a text behind `# `.
+fn append_marked(out: &mut Vec<u8>, said: &str) -> Result<(), AllocError>
+    ensures { OnOk result (out.new.items ≡ out.old.items ++ marked true said.now) }
+{
+    let mut starts = true;
+    for byte in said.as_bytes() {
+        if starts {
+            out.extend_from_slice(b"# ")?;
+        }
+        out.push(*byte)?;
+        starts = *byte == b'\n';
+    }
+    Ok(())
+}
+
+/// The answer to a line: what its command prints, what it says on standard error, each line behind `# `, and `status N`.
+///
+/// # Errors
+///
+/// The allocator refused memory.
+pub fn reply_of(
+    alloc: Global,
+    text: &str,
+    said: &str,
+    status: Status,
+) -> Result<Vec<u8>, AllocError>
+    ensures { IfOk result (λ bytes. bytes.items ≡ reply text.now said.now status) }
+{
+    let number = number_of(status);
+    let end = format!(in alloc; "status {number}\n")?;
+    let mut out = Vec::new(alloc);
+    out.extend_from_slice(text.as_bytes())?;
+    append_marked(&mut out, said)?;
+    out.extend_from_slice(end.as_bytes())?;
+    Ok(out)
+}
+
+/// `block HEX`, where the bytes of a block are told, and nothing else.
+pub(crate) fn block_line_of(alloc: Global, block: &Option<Vec<u8>>) -> Result<String, AllocError>
+    ensures { IfOk result (λ line. string_bytes line ≡ block_line (option_map (λ bytes. bytes.items) block.now)) }
+{
+    match block {
+        None => Ok(String::new(alloc)),
+        Some(bytes) => {
+            let digits = hex::encode(alloc, bytes.as_slice())?;
+            format!(in alloc; "block {digits}\n")
+        }
+    }
+}
+
+/// `digest HEX`.
+pub(crate) fn digest_line_of(alloc: Global, digest: [u8; 32]) -> Result<String, AllocError>
+    ensures { IfOk result (λ line. string_bytes line ≡ digest_line digest) }
+{
+    let digits = hex::encode(alloc, digest)?;
+    format!(in alloc; "digest {digits}\n")
+}
