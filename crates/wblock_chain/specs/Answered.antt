@@ -1,5 +1,5 @@
 -- What one line gets, as the code has it.
-use Rattle.std.specs.Prelude.{◌≡◌, Bool, ◌≢◌, ◌↔◌, ℕ, ◌<◌, ◌⊎◌, List, [], ◌∷◌, ◌++◌, false, true, Option, Some, None, IfSome, IsUtf8, length, map, option_map, string_bytes}
+use Rattle.std.specs.Prelude.{◌≡◌, Bool, ◌≢◌, ℕ, ◌<◌, ◌⊎◌, List, [], ◌∷◌, ◌++◌, false, true, Option, Some, None, IfSome, IsUtf8, length, map, option_map, string_bytes}
 use Rattle.std.specs.Borrow.{Bor}
 use Rattle.spec_block.specs.Worlds.{Contract, World}
 use Rattle.spec_block.specs.Bytes.{world_bytes}
@@ -8,6 +8,8 @@ use Rattle.wblock_io.specs.Holding.{Holding, Changes}
 use Rattle.wblock_line.specs.Answers.{EndsLine, Written, Wrote, file_line, sentence_line, write_of}
 use Rattle.wblock_line.specs.declared.transition.Change.{Change}
 use Rattle.wblock_line.specs.declared.transition.NextWorld.{NextWorld}
+use Rattle.wblock_line.specs.declared.transition.Transition.{Transition}
+use Rattle.wblock_line.specs.declared.transition.Transition.TheVariants as transition
 use Rattle.wblock_line.specs.declared.perform.Status.{Status}
 use Rattle.wblock_line.specs.declared.perform.Status.TheVariants as status
 use Rattle.wblock_chain.specs.Replies.{block_line, reply, saved_line}
@@ -32,12 +34,24 @@ pub record IsFileReply (world : World) (file : List ℕ) (a : Answered) : Type 0
   pub why : List ℕ
   pub moves : MovesOn world [] (file_line file ++ sentence_line why) status.File a
 
+-- the line asks for nothing, of which something is said, and the world stays
+pub record IsUsageReply (world : World) (a : Answered) : Type 0 where
+  pub said : List ℕ
+  pub ends_line : EndsLine said
+  pub moves : MovesOn world [] said status.Usage a
+
 -- ---- what is done
+
+-- the last of the writes is of a block that is told
+pub record EndsTold (writes : List Written) : Type 0 where
+  pub front : List Written
+  pub bytes : List ℕ
+  pub are : writes ≡ front ++ (told_block, bytes) ∷ []
 
 -- the last of the writes is of a block that is told, and the others are of files; or all of them are
 abbrev pub AreApart : (writes : List Written) → (block : Option (List ℕ)) → (files : List Written) → Type 0
 AreApart writes (Some block) files = writes ≡ files ++ (told_block, block) ∷ []
-AreApart writes None files = (writes ≡ files) × ((front : List Written) (bytes : List ℕ) → writes ≢ front ++ (told_block, bytes) ∷ [])
+AreApart writes None files = (writes ≡ files) × ¬ EndsTold writes
 
 -- the world that is left, or else this one
 abbrev pub world_left : Option NextWorld → World → World
@@ -63,6 +77,11 @@ pub record IsUndone (c : Change) (old new : Holding) (world : World) (a : Answer
 
 abbrev pub Settles : Change → (old new : Holding) → World → Answered → Type 0
 Settles c old new world a = IsCarriedOut c old new world a ⊎ IsUndone c old new world a
+
+-- the same, or the line is refused, and all is as it was
+abbrev pub SettlesTransition : Transition → (old new : Holding) → World → Answered → Type 0
+SettlesTransition (transition.Done change) old new world a = Settles change old new world a
+SettlesTransition (transition.Refused line why) old new world a = (new ≡ old) × MovesOn world (string_bytes line) (string_bytes why ++ 10 ∷ []) status.Refused a
 
 -- the session goes on with these contracts behind those of the world
 pub record IsExtended (json : Bool) (base : World) (contracts : List Contract) (a : Answered) : Type 0 where
@@ -101,7 +120,7 @@ pub record Gets (name line : List ℕ) (calls : Option (List (List ℕ))) (old n
   pub answer :
       IsUsage name exchange (record { files = old; world = world }) (session_after new a)
       ⊎ (FailsLine name exchange (record { files = old; world = world }) (session_after new a) ⊎ DoesLine name exchange (record { files = old; world = world }) (session_after new a))
-  pub quits : (a.quits ≡ true) ↔ Asks name line Quit
+  pub quits : a.quits ≡ true → Asks name line Quit
 
 -- whatever line asks for the command, with these calls behind it
 abbrev pub AnswersAsked : (name : List ℕ) → SessionCommand → (behind : Option (List ℕ)) → (old new : Holding) → World → Answered → Type 0

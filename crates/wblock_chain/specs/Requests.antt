@@ -1,13 +1,13 @@
 -- A line of a session as it is read.
-use Rattle.std.specs.Prelude.{◌≡◌, ℕ, ◌<◌, ◌≤◌, ◌⊎◌, List, [], ◌∷◌, ◌++◌, Option, Some, None, IfSome, IsSome, ◌↔◌, length, option_map, string_bytes}
-use Rattle.std.specs.List.{All, flat_map}
+use Rattle.std.specs.Prelude.{◌≡◌, ℕ, ◌<◌, ◌≤◌, ◌⊎◌, List, [], ◌∷◌, ◌++◌, true, Option, Some, None, IfSome, IsSome, IsUtf8, ◌↔◌, length, option_map, string_bytes}
+use Rattle.std.specs.List.{All}
 use Rattle.wblock_chain.specs.declared.request.CallsRead.{CallsRead}
 use Rattle.wblock_chain.specs.declared.request.CallsRead.TheVariants as read
 use Rattle.wblock_chain.specs.declared.request.Request.{Request}
 use Rattle.wblock_chain.specs.declared.request.Request.TheVariants.{Text, TooLong, NotUtf8}
 use Rattle.wblock_chain.specs.Sessions.{AreFull, behind, text_of_calls, IsUnfinished}
-use Rattle.wblock_chain.specs.Words.{AsksCalls}
-use Rattle.std.specs.Prelude.{IsUtf8}
+use Rattle.wblock_calls.specs.Texts.{words_of}
+use Rattle.wblock_chain.specs.Words.{AsksCalls, takes_calls}
 
 abbrev pub AreShort : List (List ℕ) → Type 0
 AreShort calls = All (λ line. length line ≤ 1048576) calls
@@ -30,3 +30,9 @@ IsRequest old (Some (Text line text)) new =
     (calls : Option (List (List ℕ))) × IsAskedLine (string_bytes line) calls old new × (length (string_bytes line) ≤ 1048576) × IfSome calls AreShort × (option_map (λ t. t.items) text ≡ text_of_calls calls)
 IsRequest old (Some TooLong) new = (line : List ℕ) × (calls : Option (List (List ℕ))) × IsAskedLine line calls old new × ((1048576 < length line) ⊎ ¬ IfSome calls AreShort)
 IsRequest old (Some NotUtf8) new = (line : List ℕ) × IsAskedLine line None old new × ¬ IsUtf8 line
+
+-- calls stand behind the text where it asks for them alone
+abbrev pub TakesCalls : Request → Type 0
+TakesCalls (Text line calls) = IfSome calls (λ text. takes_calls (words_of (string_bytes line)) ≡ true)
+TakesCalls TooLong = Unit {0}
+TakesCalls NotUtf8 = Unit {0}

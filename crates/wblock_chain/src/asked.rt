@@ -172,7 +172,7 @@ pub fn session_command_of<'l, 'w>(
     line: &Line<'w>,
     single: &'l Line<'w>,
 ) -> Result<Option<SessionCommand<'l, 'w>>, AllocError>
-    requires { line_of single.entry.now ≡ single_line _name.entry.now (line_of line.now) }
+    requires { line_of single.now ≡ single_line _name.now (line_of line.now) }
     ensures few { IfOk result (λ found. IfSome found IsFewAsked) }
     ensures over { IfOk result (λ found. IfSome found (IsOverAsked _name.entry.now)) }
     ensures asked { IfOk result (λ found. MatchOption found ((c : Asked) → ¬ IsAsked _name.entry.now (line_of line.now) c) (IsAsked _name.entry.now (line_of line.now))) }

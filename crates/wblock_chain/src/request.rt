@@ -1,10 +1,10 @@
 //! A line of a session, read with the calls behind it.
 
-ghost use Rattle.std.specs.Prelude.{◌≡◌, ◌∷◌, ◌++◌, [], Err, IfOk, OnOk, IsTrue};
+ghost use Rattle.std.specs.Prelude.{◌≡◌, ◌∷◌, ◌++◌, [], Err, IfOk, IfSome, OnOk, IsTrue, if◌then◌else◌};
 ghost use Rattle.byte_sinks.specs.Putting.{IsRaised};
 ghost use Rattle.wblock_io.specs.declared.lines.LineFault.{LineFault as Why};
 ghost use Rattle.wblock_calls.specs.Texts.{words_of};
-ghost use Rattle.wblock_chain.specs.Requests.{IsRequest, IsCallsRead};
+ghost use Rattle.wblock_chain.specs.Requests.{IsRequest, IsCallsRead, TakesCalls};
 ghost use Rattle.wblock_chain.specs.Words.{takes_calls};
 
 use crate::asked::takes_calls;
@@ -50,31 +50,43 @@ fn read_calls<L: Lines>(alloc: Global, lines: &mut L) -> Result<CallsRead, LineF
     let mut text = Vec::new(alloc);
     let mut fits = true;
     for _ in 0..u64::MAX {
-        match lines.next_line(alloc)? {
+        let line = match lines.next_line(alloc)? {
             NextLine::End => return Ok(CallsRead::Unfinished),
-            NextLine::TooLong => fits = false,
-            NextLine::Line(line) => {
-                if line.is_empty() {
-                    return Ok(if fits {
-                        CallsRead::Text(text)
-                    } else {
-                        CallsRead::TooLong
-                    });
-                }
-                if fits && append_line(&mut text, line.as_slice()).is_err() {
-                    return Err(LineFault::NoMemory);
-                }
+            NextLine::TooLong => {
+                fits = false;
+                continue;
             }
+            NextLine::Line(line) => line,
+        };
+        if line.is_empty() {
+            return Ok(calls_read(text, fits));
         }
+        let Ok(()) = keep_line(&mut text, line.as_slice(), fits) else {
+            return Err(LineFault::NoMemory);
+        };
     }
     // so many lines have no room
     Err(LineFault::NoMemory)
 }
 
-/// Puts a line and its newline behind a text.
-fn append_line(text: &mut Vec<u8>, line: &[u8]) -> Result<(), AllocError>
-    ensures { OnOk result (text.new.items ≡ text.old.items ++ line.now ++ 10 ∷ []) }
+/// What was read of calls that are ended: their text, where none of them is too long.
+fn calls_read(text: Vec<u8>, fits: bool) -> CallsRead
+    ensures { result ≡ (if fits then CallsRead.Text text else CallsRead.TooLong) }
 {
+    if fits {
+        CallsRead::Text(text)
+    } else {
+        CallsRead::TooLong
+    }
+}
+
+/// Puts a line and its newline behind a text, where the text is kept.
+fn keep_line(text: &mut Vec<u8>, line: &[u8], keeps: bool) -> Result<(), AllocError>
+    ensures { OnOk result (text.new.items ≡ (if keeps then text.old.items ++ line.now ++ 10 ∷ [] else text.old.items)) }
+{
+    if !keeps {
+        return Ok(());
+    }
     text.extend_from_slice(line)?;
     text.push(b'\n')?;
     Ok(())
@@ -86,6 +98,7 @@ pub(crate) fn next_request<L: Lines>(
     lines: &mut L,
 ) -> Result<Option<Request>, LineFault>
     ensures read { IfOk result (λ found. IsTrue L.tells → IsRequest (L.coming lines.old) found (L.coming lines.new)) }
+    ensures asked { IfOk result (λ found. IfSome found TakesCalls) }
     ensures calm { OnOk result (L.failures lines.new ≡ L.failures lines.old) }
     ensures counted { result ≡ Err Why.Failed → IsRaised (L.failures lines.old) (L.failures lines.new) }
 {

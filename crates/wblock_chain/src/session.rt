@@ -1,16 +1,19 @@
 //! A session: its lines are answered one after another, over a world that it keeps.
 
-ghost use Rattle.std.specs.Prelude.{◌≡◌, ◌≢◌, ◌+◌, ◌≤◌, ◌⊎◌, ◌++◌, ℕ, List, [], IsTrue, IfOk, OnErr, codes, option_map, length, map, string_bytes, vec_len};
+ghost use Rattle.std.specs.Prelude.{◌≡◌, ◌≢◌, ◌+◌, ◌≤◌, ◌⊎◌, ◌++◌, ◌↔◌, ℕ, List, [], true, IsTrue, IfOk, IfSome, OnErr, codes, option_map, length, map, string_bytes, vec_len};
 ghost use Rattle.sha2.specs.Sha256.{sha256};
 ghost use Rattle.spec_block.specs.Bytes.{world_bytes};
 ghost use Rattle.world.specs.Views.{contract_view, world_view};
 ghost use Rattle.wblock_line.specs.Answers.{IsSaid, file_line, memory_line, sentence_line, write_of};
 ghost use Rattle.wblock_line.specs.declared.perform.Status.{Status as Shown};
 ghost use Rattle.wblock_commands.specs.Words.{HasFew};
-ghost use Rattle.wblock_chain.specs.Answered.{AnswersAsked, AnswersText, AnswersRequest, AreApart, IsExtended, IsFileReply, IsNotSaved, IsSaved, MovesOn, Quits, Settles};
+ghost use Rattle.wblock_chain.specs.Answered.{AnswersAsked, AnswersText, AnswersRequest, AreApart, EndsTold, IsExtended, IsFileReply, IsNotSaved, IsSaved, IsUsageReply, MovesOn, Quits, Settles, SettlesTransition};
+ghost use Rattle.wblock_calls.specs.Texts.{words_of};
+ghost use Rattle.wblock_chain.specs.Plans.{FitsOne, IsLone, IsLoneAsked};
+ghost use Rattle.wblock_chain.specs.Requests.{TakesCalls};
 ghost use Rattle.wblock_chain.specs.Replies.{block_line, digest_line, reply};
 ghost use Rattle.wblock_chain.specs.Sessions.{HasNotBegun, IsSession, IsSessionOver, IsStopped, IsStoppedOver, IsToldInPart, RefusesWorld};
-ghost use Rattle.wblock_chain.specs.Words.{IsFewAsked, IsOver, IsOverAsked};
+ghost use Rattle.wblock_chain.specs.Words.{IsFewAsked, IsOver, IsOverAsked, takes_calls};
 
 use crate::asked::{SessionCommand, TOLD_BLOCK, named_words, session_command_of, single_line};
 use crate::plan::{Plan, plan_of};
@@ -26,8 +29,8 @@ use std::thread::Threads;
 use wblock_commands::Command;
 use wblock_io::{Cause, Files, LineFault, Lines, WriteFault, write_file};
 use wblock_line::{
-    Change, Fault, Status, Transition, WorldFile, Write, read_world_file, split_words, tell_fault,
-    write_files,
+    Change, Fault, Status, Transition, WorldFile, Write, is_word, read_world_file, split_words,
+    tell_fault, write_files,
 };
 use wblock_modules::extend;
 use world::{World, digest_world, encode_world};
@@ -45,7 +48,7 @@ pub(crate) struct Answered {
 }
 
 /// The answer that goes on with a world.
-fn answered(
+fn answer_with(
     alloc: Global,
     world: World,
     text: &str,
@@ -60,6 +63,14 @@ fn answered(
         reply,
         quits: false,
     })
+}
+
+/// The answer to a line that asks for nothing, of which this is said. The world stays.
+fn refuse_line(alloc: Global, world: World, usage: &str) -> Result<Answered, NoMemory>
+    ensures { IfOk result (IsUsageReply (world_view world)) }
+{
+    let said = format!(in alloc; "{usage}\n")?;
+    answer_with(alloc, world, "", said.as_str(), Status::Usage)
 }
 
 /// What is said of a file that failed: `file NAME`, and in a line behind it why, where that is known.
@@ -78,7 +89,17 @@ fn failed(alloc: Global, world: World, name: &str, cause: Cause) -> Result<Answe
     ensures { IfOk result (IsFileReply (world_view world) name.now) }
 {
     let said = said_of_file(alloc, name, cause)?;
-    answered(alloc, world, "", said.as_str(), Status::File)
+    answer_with(alloc, world, "", said.as_str(), Status::File)
+}
+
+/// Whether the last of these writes is of a block that is told.
+fn tells_block(writes: &[Write]) -> bool
+    ensures { IsTrue result ↔ EndsTold (map write_of writes.now) }
+{
+    match writes {
+        [.., last] => is_word(last.name, TOLD_BLOCK),
+        [] => false,
+    }
 }
 
 /// The block's bytes, where they are told, and the files that are to be written.
@@ -86,11 +107,7 @@ fn told_apart<'w>(writes: Vec<Write<'w>>) -> (Option<Vec<u8>>, Vec<Write<'w>>)
     ensures { AreApart (map write_of writes.entry.items) (option_map (λ block. block.items) result.0) (map write_of result.1.items) }
 {
     let mut writes = writes;
-    let is_told = match writes.last() {
-        Some(write) => write.name == TOLD_BLOCK,
-        None => false,
-    };
-    if !is_told {
+    if !tells_block(writes.as_slice()) {
         return (None, writes);
     }
     match writes.pop() {
@@ -142,6 +159,26 @@ fn settle<'w, F: Files>(
     })
 }
 
+/// Does what a transition says, or tells why it is refused.
+fn settle_transition<'w, F: Files>(
+    alloc: Global,
+    files: &mut F,
+    world: World,
+    transition: Transition<'w>,
+) -> Result<Answered, NoMemory>
+    requires { FitsOne transition }
+    ensures settles { IfOk result (λ a. IsTrue F.tells → SettlesTransition transition.entry (F.holds files.old) (F.holds files.new) (world_view world) a) }
+    ensures kept { OnErr result (IsTrue F.tells → F.holds files.new ≡ F.holds files.old) }
+{
+    match transition {
+        Transition::Done(change) => settle(alloc, files, world, change),
+        Transition::Refused(line, why) => {
+            let said = format!(in alloc; "{why}\n")?;
+            answer_with(alloc, world, line.as_str(), said.as_str(), Status::Refused)
+        }
+    }
+}
+
 /// Goes on with the world that has these contracts behind its own.
 fn settle_contracts(
     alloc: Global,
@@ -161,7 +198,7 @@ fn settle_contracts(
                 text,
                 note: _note,
             },
-        ) => answered(alloc, next.world, text.as_str(), "", Status::Done),
+        ) => answer_with(alloc, next.world, text.as_str(), "", Status::Done),
         _ => unreachable!(),
     }
 }
@@ -178,16 +215,13 @@ fn answer_single<'l, 'w, R: Threads + Wait + Sync, F: Files, P: Pace>(
     pace: &P,
 ) -> Result<Answered, NoMemory>
     requires few { HasFew command }
-    requires over { IsOver name.entry.now command }
+    requires over { IsOver name.now command }
+    requires lone { IsLone command (option_map (λ text. text.items) behind) }
     ensures answer { IfOk result (λ a. IsTrue F.tells → AnswersAsked name.entry.now (SessionCommand.Single command.entry) (option_map (λ text. text.items) behind) (F.holds files.old) (F.holds files.new) (world_view world) a) }
     ensures kept { OnErr result (IsTrue F.tells → F.holds files.new ≡ F.holds files.old) }
 {
     match plan_of(rt, alloc, files, name, &world, command, behind, pace) {
-        Ok(Plan::Made(Transition::Done(change))) => settle(alloc, files, world, change),
-        Ok(Plan::Made(Transition::Refused(line, why))) => {
-            let said = format!(in alloc; "{why}\n")?;
-            answered(alloc, world, line.as_str(), said.as_str(), Status::Refused)
-        }
+        Ok(Plan::Made(transition)) => settle_transition(alloc, files, world, transition),
         Ok(Plan::Linked(contracts, json)) => {
             settle_contracts(alloc, json, name, world, contracts)
         }
@@ -226,7 +260,7 @@ fn answer_digest(alloc: Global, world: World) -> Result<Answered, NoMemory>
 {
     let digest = digest_world(alloc, &world)?;
     let text = digest_line_of(alloc, digest)?;
-    answered(
+    answer_with(
         alloc,
         world.with_digest(digest),
         text.as_str(),
@@ -259,7 +293,8 @@ fn answer_command<'l, 'w, R: Threads + Wait + Sync, F: Files, P: Pace>(
     pace: &P,
 ) -> Result<Answered, NoMemory>
     requires few { IsFewAsked command }
-    requires over { IsOverAsked name.entry.now command }
+    requires over { IsOverAsked name.now command }
+    requires lone { IsLoneAsked command (option_map (λ text. text.items) behind) }
     ensures answer { IfOk result (λ a. IsTrue F.tells → AnswersAsked name.entry.now command.entry (option_map (λ text. text.items) behind) (F.holds files.old) (F.holds files.new) (world_view world) a) }
     ensures kept { OnErr result (IsTrue F.tells → F.holds files.new ≡ F.holds files.old) }
 {
@@ -284,6 +319,7 @@ fn answer_text<R: Threads + Wait + Sync, F: Files, P: Pace>(
     behind: Option<Vec<u8>>,
     pace: &P,
 ) -> Result<Answered, NoMemory>
+    requires { IfSome behind (λ calls. takes_calls (words_of text.now) ≡ true) }
     ensures answer { IfOk result (λ a. IsTrue F.tells → AnswersText name.now text.now (option_map (λ text. text.items) behind) (F.holds files.old) (F.holds files.new) (world_view world) a) }
     ensures kept { OnErr result (IsTrue F.tells → F.holds files.new ≡ F.holds files.old) }
 {
@@ -294,12 +330,12 @@ fn answer_text<R: Threads + Wait + Sync, F: Files, P: Pace>(
     };
     let words = named_words(alloc, words.as_slice())?;
     let Some(line) = split_words(alloc, words.as_slice())? else {
-        return answered(alloc, world, "", usage, Status::Usage);
+        return refuse_line(alloc, world, usage);
     };
     let single = single_line(alloc, name, &line)?;
     match session_command_of(alloc, name, &line, &single)? {
         Some(command) => answer_command(rt, alloc, files, name, world, command, behind, pace),
-        None => answered(alloc, world, "", usage, Status::Usage),
+        None => refuse_line(alloc, world, usage),
     }
 }
 
@@ -313,6 +349,7 @@ fn answer<R: Threads + Wait + Sync, F: Files, P: Pace>(
     request: Request,
     pace: &P,
 ) -> Result<Answered, NoMemory>
+    requires { TakesCalls request }
     ensures answer { IfOk result (λ a. IsTrue F.tells → AnswersRequest name.now request (F.holds files.old) (F.holds files.new) (world_view world) a) }
     ensures kept { OnErr result (IsTrue F.tells → F.holds files.new ≡ F.holds files.old) }
 {
@@ -320,8 +357,8 @@ fn answer<R: Threads + Wait + Sync, F: Files, P: Pace>(
         Request::Text(text, behind) => {
             answer_text(rt, alloc, files, name, world, text.as_str(), behind, pace)
         }
-        Request::TooLong => answered(alloc, world, "", TOO_LONG, Status::Usage),
-        Request::NotUtf8 => answered(alloc, world, "", NOT_UTF8, Status::Usage),
+        Request::TooLong => refuse_line(alloc, world, TOO_LONG),
+        Request::NotUtf8 => refuse_line(alloc, world, NOT_UTF8),
     }
 }
 

@@ -1,0 +1,238 @@
+-- What the words of a line ask for is over the session's world.
+use Rattle.std.proofs.Common.{◌≡◌, ◌≢◌, ℕ, ◌+◌, ◌≤◌, ◌⊎◌, List, [], ◌∷◌, ◌++◌, Bool, true, false, ◌||◌, Option, Some, None, IfSome, Bor, bytes_eq, codes, length, if◌then◌else◌, refl, sym, ap, subst, ◌∙◌, inl, inr, arith}
+use Rattle.std.proofs.lemmas.Bool.{and_parts, or_cases, both_ways, cond-true, cond-false, false≢true}
+use Rattle.std.proofs.lemmas.List.{length-map}
+use Rattle.std.proofs.lemmas.Option.{none-some, same_Some}
+use Rattle.std.proofs.lemmas.Slice.Eq.{bytes_eq-Decides}
+use Rattle.wblock_calls.specs.Words.{texts}
+use Rattle.wblock_line.specs.Words.{Choice, Line, is_option, split, with_front}
+use Rattle.wblock_blocks.specs.declared.mine.Mining.{Mining}
+use Rattle.wblock_blocks.specs.declared.validate.Validation.{Validation}
+use Rattle.wblock_call.specs.declared.called.Calling.{Calling}
+use Rattle.wblock_call.specs.Calling.{AsksCall}
+use Rattle.wblock_modules.specs.Deploys.{IsOld}
+use Rattle.wblock_commands.specs.Options.{IsNameOrNone, IsNumber, IsNumberOr, values_in}
+use Rattle.wblock_commands.specs.Words.{AsksDeploy, AsksMine, AsksValidate, HasFew, IsApart, IsLineOf}
+use Rattle.wblock_commands.specs.declared.command.Command.{Command}
+use Rattle.wblock_commands.specs.declared.command.Command.TheVariants.{Stored, Help, Version, Asm, Text, Check, Deploy, Mine, Validate, Call, Debug, Show}
+use Rattle.wblock_commands.specs.declared.command.Deploying.{Deploying}
+use Rattle.wblock_chain.specs.declared.asked.SessionCommand.{SessionCommand}
+use Rattle.wblock_chain.specs.declared.asked.SessionCommand.TheVariants.{Single, Save, Digest, Quit}
+use Rattle.wblock_chain.specs.Plans.{IsLone, IsLoneAsked}
+use Rattle.wblock_chain.specs.Words.{AreBeside, IsAsked, IsOver, IsOverWorld, calls_here, named, single_line, single_options, single_words, takes_calls, with_block, with_calls}
+
+-- ---- lists
+
+push_is_some : (xs : List (List ℕ)) (x : List ℕ) → xs ++ x ∷ [] ≡ [] → ⊥
+push_is_some [] x e = absurd cc
+push_is_some (y ∷ xs) x e = absurd cc
+
+only : (xs : List (List ℕ)) (x y : List ℕ) → xs ++ x ∷ [] ≡ y ∷ [] → x ≡ y
+only [] x y e = cc
+only (z ∷ xs) x y e = let rest : xs ++ x ∷ [] ≡ [] = cc in absurd (push_is_some xs x rest)
+
+third : (xs : List (List ℕ)) (x a b c : List ℕ) → xs ++ x ∷ [] ≡ a ∷ b ∷ c ∷ [] → x ≡ c
+third [] x a b c e = absurd cc
+third (y ∷ []) x a b c e = absurd cc
+third (y ∷ z ∷ xs) x a b c e = let rest : xs ++ x ∷ [] ≡ c ∷ [] = cc in only xs x c rest
+
+heads : (v w : List ℕ) (vs ws : List (List ℕ)) → v ∷ vs ≡ w ∷ ws → v ≡ w
+heads v w vs ws e = cc
+
+tails : (v w : List ℕ) (vs ws : List (List ℕ)) → v ∷ vs ≡ w ∷ ws → vs ≡ ws
+tails v w vs ws e = cc
+
+-- lines of different first words are different
+differ : (v w : List ℕ) (vs ws : List (List ℕ)) → bytes_eq v w ≡ false → v ∷ vs ≡ w ∷ ws → ⊥
+differ v w vs ws no e = both_ways (bytes_eq v w) no ((bytes_eq-Decides v w).1 (heads v w vs ws e))
+
+-- ---- the program's line
+
+both : (b : Bool) (w name : List ℕ) (others : List (List ℕ)) → (if b then w ∷ name ∷ (others ++ name ∷ []) else w ∷ name ∷ others) ≡ w ∷ name ∷ (if b then others ++ name ∷ [] else others)
+both true w name others = refl
+both false w name others = refl
+
+-- WORLD stands behind the first word
+second : (name w : List ℕ) (others : List (List ℕ)) → single_words name (w ∷ others) ≡ w ∷ name ∷ (if bytes_eq w (codes "mine") then others ++ name ∷ [] else others)
+second name w others = both (bytes_eq w (codes "mine")) w name others
+
+pub record IsSecond (name : List ℕ) (words : List (List ℕ)) (command world : List ℕ) (rest : List (List ℕ)) : Type 0 where
+  pub others : List (List ℕ)
+  pub words_are : words ≡ command ∷ others
+  pub world_is : world ≡ name
+  pub rest_is : (if bytes_eq command (codes "mine") then others ++ name ∷ [] else others) ≡ rest
+
+world_second : (name : List ℕ) (words : List (List ℕ)) (command world : List ℕ) (rest : List (List ℕ)) → single_words name words ≡ command ∷ world ∷ rest → IsSecond name words command world rest
+world_second name [] command world rest e = absurd cc
+world_second name (w ∷ others) command world rest e =
+    let whole = sym (second name w others) ∙ e in
+    let first : w ≡ command = heads _ _ _ _ whole in
+    let behind = tails _ _ _ _ whole in
+    record {
+      others = others;
+      words_are = ap (λ (v : List ℕ). v ∷ others) first;
+      world_is = sym (heads _ _ _ _ behind);
+      rest_is = subst (λ (v : List ℕ). (if bytes_eq v (codes "mine") then others ++ name ∷ [] else others) ≡ rest) first (tails _ _ _ _ behind);
+    }
+
+kept : (b : Bool) (v : List ℕ) (all front back : List (List ℕ)) → all ≡ front ++ back → (if b then v ∷ all else all) ≡ (if b then v ∷ front else front) ++ back
+kept true v all front back e = ap (λ (xs : List (List ℕ)). v ∷ xs) e
+kept false v all front back e = e
+
+values_behind : (option : List ℕ) (front back : List Choice) → values_in option (front ++ back) ≡ values_in option front ++ values_in option back
+values_behind option [] back = refl
+values_behind option (o ∷ os) back = kept (bytes_eq o.0 option) o.1 (values_in option (os ++ back)) (values_in option os) (values_in option back) (values_behind option os back)
+
+-- the one value of an option that stands last
+last_value : (name : List ℕ) (values : List (List ℕ)) (given : Option (Bor (List ℕ))) → IsNameOrNone (values ++ name ∷ []) given → IsOld given name
+last_value name values None e = push_is_some values name e
+last_value name values (Some old) e = only values name old.now e
+
+next_beside : (name calls block : List ℕ) (next : Option (Bor (List ℕ))) → IsOld next name → IfSome next (λ n. (calls ≢ n.now) × (block ≢ n.now)) → block ≢ calls_here → AreBeside name calls block
+next_beside name calls block None old apart here = absurd old
+next_beside name calls block (Some n) old apart here = record { calls_are = λ e. apart.0 (e ∙ old); block_is = λ e. apart.1 (e ∙ old); apart = here }
+
+deploy_over : (name : List ℕ) (line : Line) (task : Deploying) → AsksDeploy (single_line name line) task → IsOver name (Deploy task)
+deploy_over name line task asks =
+    let is = world_second name line.words (codes "deploy") task.world.now (texts task.modules.now) asks.names.words_are in
+    let options : single_options name line.words line.options ≡ line.options ++ (codes "--onto", name) ∷ [] = ap (λ (ws : List (List ℕ)). single_options name ws line.options) is.words_are in
+    let values : values_in (codes "--onto") (single_options name line.words line.options) ≡ values_in (codes "--onto") line.options ++ name ∷ [] = ap (values_in (codes "--onto")) options ∙ values_behind (codes "--onto") line.options ((codes "--onto", name) ∷ []) in (
+      is.world_is,
+      last_value name (values_in (codes "--onto") line.options) task.onto (subst (λ (vs : List (List ℕ)). IsNameOrNone vs task.onto) values asks.onto),
+      subst (λ (w : List ℕ). IsApart w (texts task.modules.now)) is.world_is asks.names.apart,
+    )
+
+mine_over : (name : List ℕ) (line : Line) (task : Mining) → AsksMine (single_line name line) task → task.block.now ≢ calls_here → IsOver name (Mine task)
+mine_over name line task asks here =
+    let is = world_second name line.words (codes "mine") task.world.now (task.calls.now ∷ task.block.now ∷ task.next.now ∷ []) asks.words in
+    let next : name ≡ task.next.now = third is.others name task.calls.now task.block.now task.next.now is.rest_is in (
+      is.world_is,
+      sym next,
+      record {
+        calls_are = λ e. asks.apart.list (e ∙ next);
+        block_is = λ e. asks.apart.world (is.world_is ∙ sym e);
+        apart = here;
+      },
+    )
+
+validate_over : (name : List ℕ) (line : Line) (task : Validation) → AsksValidate (single_line name line) task → task.block.now ≢ calls_here → IsOver name (Validate task)
+validate_over name line task asks here =
+    let is = world_second name line.words (codes "validate") task.world.now (task.calls.now ∷ task.block.now ∷ []) asks.spells.counts.words in
+    let options : single_options name line.words line.options ≡ line.options ++ (codes "--next", name) ∷ [] = ap (λ (ws : List (List ℕ)). single_options name ws line.options) is.words_are in
+    let values : values_in (codes "--next") (single_options name line.words line.options) ≡ values_in (codes "--next") line.options ++ name ∷ [] = ap (values_in (codes "--next")) options ∙ values_behind (codes "--next") line.options ((codes "--next", name) ∷ []) in
+    let old = last_value name (values_in (codes "--next") line.options) task.next (subst (λ (vs : List (List ℕ)). IsNameOrNone vs task.next) values asks.spells.next) in (
+      is.world_is,
+      old,
+      next_beside name task.calls.now task.block.now task.next old asks.apart here,
+    )
+
+call_over : (name : List ℕ) (line : Line) (task : Calling) → AsksCall (single_line name line) task → IsOver name (Call task)
+call_over name line task asks = (world_second name line.words (codes "call") task.world.now asks.spelling asks.words).world_is
+
+-- a command of the session is over its world
+pub is_over : (name : List ℕ) (line : Line) (c : Command) → IsLineOf (single_line name line) c → IsOverWorld c → IsOver name c
+is_over name line Stored asks over = absurd over
+is_over name line (Help words) asks over = absurd over
+is_over name line Version asks over = absurd over
+is_over name line (Asm text target json) asks over = absurd over
+is_over name line (Text source target unchecked json) asks over = absurd over
+is_over name line (Check target heap json) asks over = absurd over
+is_over name line (Deploy task) asks over = deploy_over name line task asks
+is_over name line (Mine task) asks over = mine_over name line task asks over
+is_over name line (Validate task) asks over = validate_over name line task asks over
+is_over name line (Call task) asks over = call_over name line task asks
+is_over name line (Debug task) asks over = absurd over
+is_over name line (Show task) asks over = absurd over
+
+-- ---- numbers
+
+within : (usual least most n : ℕ) (values : List (List ℕ)) → least ≤ usual → usual ≤ most → IsNumberOr usual values least most n → (least ≤ n) × (n ≤ most)
+within usual least most n values low high (inl e) = let same = e.1 in (omega (arith, low, same), omega (arith, high, same))
+within usual least most n values low high (inr is) = (is.enough, is.few)
+
+-- a line asks for few workers, tries and modules
+pub has_few : (line : Line) (c : Command) → IsLineOf line c → HasFew c
+has_few line Stored asks = tt
+has_few line (Help words) asks = tt
+has_few line Version asks = tt
+has_few line (Asm text target json) asks = tt
+has_few line (Text source target unchecked json) asks = tt
+has_few line (Check target heap json) asks = tt
+has_few line (Deploy task) asks =
+    let few = asks.names.few in
+    let count = length-map task.modules.now (λ (w : Bor (List ℕ)). w.now) in
+    omega (arith, few, count)
+has_few line (Mine task) asks = (within 4 1 64 task.workers _ (omega arith) (omega arith) asks.workers, within 3 1 16 task.tries _ (omega arith) (omega arith) asks.tries)
+has_few line (Validate task) asks = within 4 1 64 task.workers _ (omega arith) (omega arith) asks.spells.counts.workers_are
+has_few line (Call task) asks = tt
+has_few line (Debug task) asks = tt
+has_few line (Show task) asks = tt
+
+-- ---- calls behind a line that deploys
+
+one_head : (b : Bool) (w : List ℕ) (xs ys : List (List ℕ)) → (if b then w ∷ xs else w ∷ ys) ≡ w ∷ (if b then xs else ys)
+one_head true w xs ys = refl
+one_head false w xs ys = refl
+
+abbrev behind_word : (w : List ℕ) (others : List (List ℕ)) → List (List ℕ)
+behind_word w others = if bytes_eq w (codes "mine") then with_block (with_calls others) else if bytes_eq w (codes "validate") then with_calls others else others
+
+named_head : (w : List ℕ) (others : List (List ℕ)) → named (w ∷ others) ≡ w ∷ behind_word w others
+named_head w others =
+    ap (λ (xs : List (List ℕ)). if bytes_eq w (codes "mine") then w ∷ with_block (with_calls others) else xs) (one_head (bytes_eq w (codes "validate")) w (with_calls others) others)
+    ∙ one_head (bytes_eq w (codes "mine")) w (with_block (with_calls others)) (if bytes_eq w (codes "validate") then with_calls others else others)
+
+abbrev BeginsWith : List ℕ → Line → Type 0
+BeginsWith w line = (words : List (List ℕ)) × (line.words ≡ w ∷ words)
+
+fronted : (w : List ℕ) (rest : Option Line) (line : Line) → with_front (w ∷ []) [] rest ≡ Some line → BeginsWith w line
+fronted w None line e = absurd (none-some line e)
+fronted w (Some l) line e = (l.words, sym (ap (λ (x : Line). x.words) (same_Some _ _ e)))
+
+-- a first word that is no option stays the first
+split_head : (w : List ℕ) (ws : List (List ℕ)) (line : Line) → is_option w ≡ false → split (w ∷ ws) ≡ Some line → BeginsWith w line
+unfolding split
+split_head w [] line no e = ([], sym (ap (λ (x : Line). x.words) (same_Some _ _ (sym (cond-false (is_option w) _ _ no) ∙ e))))
+split_head w (v ∷ ws) line no e = fronted w (split (v ∷ ws)) line (sym (cond-false (is_option w) _ _ no) ∙ e)
+
+no_deploying : (name : List ℕ) (line : Line) (task : Deploying) (command : List ℕ) (rest : List (List ℕ)) → is_option command ≡ false → bytes_eq command (codes "deploy") ≡ false → split (command ∷ rest) ≡ Some line → AsksDeploy (single_line name line) task → ⊥
+no_deploying name line task command rest word no e asks =
+    let begins = split_head command rest line word e in
+    let is = world_second name line.words (codes "deploy") task.world.now (texts task.modules.now) asks.names.words_are in
+    differ command (codes "deploy") begins.0 is.others no (sym begins.1 ∙ is.words_are)
+
+begins_else : (name : List ℕ) (line : Line) (task : Deploying) (w : List ℕ) (others : List (List ℕ)) → (bytes_eq w (codes "mine") ≡ true) ⊎ (bytes_eq w (codes "validate") ≡ true) → split (w ∷ others) ≡ Some line → AsksDeploy (single_line name line) task → ⊥
+begins_else name line task w others (inl t) e asks = no_deploying name line task (codes "mine") others refl refl (subst (λ (v : List ℕ). split (v ∷ others) ≡ Some line) ((bytes_eq-Decides w (codes "mine")).0 t) e) asks
+begins_else name line task w others (inr t) e asks = no_deploying name line task (codes "validate") others refl refl (subst (λ (v : List ℕ). split (v ∷ others) ≡ Some line) ((bytes_eq-Decides w (codes "validate")).0 t) e) asks
+
+taken_else : (name : List ℕ) (words : List (List ℕ)) (line : Line) (task : Deploying) → takes_calls words ≡ true → split (named words) ≡ Some line → AsksDeploy (single_line name line) task → ⊥
+taken_else name [] line task takes e asks = false≢true takes
+taken_else name (w ∷ []) line task takes e asks = false≢true takes
+taken_else name (w ∷ v ∷ others) line task takes e asks =
+    let first = (and_parts (bytes_eq w (codes "mine") || bytes_eq w (codes "validate")) (bytes_eq v (codes "-")) takes).0 in
+    begins_else name line task w (behind_word w (v ∷ others)) (or_cases (bytes_eq w (codes "mine")) (bytes_eq w (codes "validate")) first) (subst (λ (ws : List (List ℕ)). split ws ≡ Some line) (named_head w (v ∷ others)) e) asks
+
+unless_taken : (name : List ℕ) (words : List (List ℕ)) (line : Line) (task : Deploying) (behind : Option (List ℕ)) → IfSome behind (λ calls. takes_calls words ≡ true) → split (named words) ≡ Some line → AsksDeploy (single_line name line) task → behind ≡ None
+unless_taken name words line task None takes e asks = refl
+unless_taken name words line task (Some calls) takes e asks = absurd (taken_else name words line task takes e asks)
+
+is_lone : (name : List ℕ) (words : List (List ℕ)) (line : Line) (c : Command) (behind : Option (List ℕ)) → IfSome behind (λ calls. takes_calls words ≡ true) → split (named words) ≡ Some line → IsLineOf (single_line name line) c → IsLone c behind
+is_lone name words line Stored behind takes e asks = tt
+is_lone name words line (Help asked) behind takes e asks = tt
+is_lone name words line Version behind takes e asks = tt
+is_lone name words line (Asm text target json) behind takes e asks = tt
+is_lone name words line (Text source target unchecked json) behind takes e asks = tt
+is_lone name words line (Check target heap json) behind takes e asks = tt
+is_lone name words line (Deploy task) behind takes e asks = unless_taken name words line task behind takes e asks
+is_lone name words line (Mine task) behind takes e asks = tt
+is_lone name words line (Validate task) behind takes e asks = tt
+is_lone name words line (Call task) behind takes e asks = tt
+is_lone name words line (Debug task) behind takes e asks = tt
+is_lone name words line (Show task) behind takes e asks = tt
+
+-- no calls stand behind a line that deploys
+pub is_lone_asked : (name : List ℕ) (words : List (List ℕ)) (line : Line) (c : SessionCommand) (behind : Option (List ℕ)) → IfSome behind (λ calls. takes_calls words ≡ true) → split (named words) ≡ Some line → IsAsked name line c → IsLoneAsked c behind
+is_lone_asked name words line (Single c) behind takes e asks = is_lone name words line c behind takes e asks.0
+is_lone_asked name words line (Save file) behind takes e asks = tt
+is_lone_asked name words line Digest behind takes e asks = tt
+is_lone_asked name words line Quit behind takes e asks = tt

@@ -1,0 +1,158 @@
+-- Lines are answered one after another.
+use Rattle.std.proofs.Common.{◌≡◌, ◌≢◌, ℕ, zero, suc, ◌+◌, ◌<◌, ◌≤◌, ◌↔◌, ◌⊎◌, List, [], ◌∷◌, ◌++◌, Bool, true, IsTrue, Result, Ok, Err, OnOk, OnErr, Option, Some, None, IsSome, IfSome, flat_map, length, option_map, string_bytes, take, refl, sym, ap, subst, ◌∙◌, inl, inr, arith, append_assoc, append-nil}
+use Rattle.std.proofs.lemmas.List.{flat_map_more, length-append, take-append-le, take_all}
+use Rattle.byte_sinks.specs.Putting.{IsCutShort}
+use Rattle.spec_block.specs.Worlds.{World}
+use Rattle.world.specs.Views.{world_view}
+use Rattle.wblock_io.specs.Holding.{Holding}
+use Rattle.wblock_line.specs.declared.perform.Status.{Status}
+use Rattle.wblock_chain.specs.Answered.{AnswersRequest, Gets, session_after}
+use Rattle.wblock_chain.specs.Replies.{reply}
+use Rattle.wblock_chain.specs.Requests.{AreShort, IsAskedLine, IsRequest}
+use Rattle.wblock_chain.specs.Sessions.{AreFull, Exchange, HasQuit, IsAnswered, IsRun, IsSessionOver, IsStoppedOver, IsToldInPart, IsUnfinished, Runs, Session, behind, lines_in, reply_in}
+use Rattle.wblock_chain.specs.Words.{Asks, AsksCalls}
+use Rattle.wblock_chain.specs.declared.asked.SessionCommand.TheVariants.{Quit}
+use Rattle.wblock_chain.specs.declared.request.Request.{Request}
+use Rattle.wblock_chain.specs.declared.request.Request.TheVariants.{Text, TooLong, NotUtf8}
+use Rattle.wblock_chain.specs.declared.session.Answered.{Answered}
+
+abbrev pub session : Holding → World → Session
+session files w = record { files = files; world = w }
+
+-- these exchanges so far, and what they told
+pub record SoFar (name : List ℕ) (world : World) (lines rest : List (List ℕ)) (old new : Holding) (last : World) (before after : List ℕ) : Type 0 where
+  pub exchanges : List Exchange
+  pub run : IsRun name exchanges lines rest (session old world) (session new last)
+  pub told : after ≡ before ++ flat_map reply_in exchanges
+
+pub begun : (name : List ℕ) (w : World) (lines : List (List ℕ)) (files : Holding) (before : List ℕ) → SoFar name w lines lines files files w before before
+begun name w lines files before = record { exchanges = []; run = record { runs = refl; lines_are = refl }; told = sym (append-nil before) }
+
+-- ---- one line more
+
+-- a line was taken and answered
+pub record Next (name : List ℕ) (mid rest : List (List ℕ)) (old new : Holding) (w : World) (a : Answered) : Type 0 where
+  pub exchange : Exchange
+  pub answered : IsAnswered name exchange (session old w) (session_after new a)
+  pub lines_are : mid ≡ lines_in exchange ++ rest
+  pub reply_is : a.reply.items ≡ reply_in exchange
+  pub quits : a.quits ≡ true → Asks name exchange.line Quit
+
+taken : (name line : List ℕ) (calls : Option (List (List ℕ))) (mid rest : List (List ℕ)) (old new : Holding) (w : World) (a : Answered) → IsAskedLine line calls mid rest → Gets name line calls old new w a → Next name mid rest old new w a
+taken name line calls mid rest old new w a asked gets =
+    let e = gets.exchange in
+    let of_line = subst (λ (l : List ℕ). IsSome calls ↔ AsksCalls l) (sym gets.line_is) asked.asked in record {
+      exchange = e;
+      answered = record {
+        taken = record {
+          asked = subst (λ (cs : Option (List (List ℕ))). IsSome cs ↔ AsksCalls e.line) (sym gets.calls_are) of_line;
+          full = subst (λ (cs : Option (List (List ℕ))). IfSome cs AreFull) (sym gets.calls_are) asked.full;
+        };
+        said = gets.said;
+        answer = gets.answer;
+      };
+      lines_are = asked.lines_are ∙ (ap (λ (l : List ℕ). l ∷ (behind calls ++ rest)) (sym gets.line_is) ∙ ap (λ (cs : Option (List (List ℕ))). e.line ∷ (behind cs ++ rest)) (sym gets.calls_are));
+      reply_is = gets.reply_is;
+      quits = λ t. subst (λ (l : List ℕ). Asks name l Quit) (sym gets.line_is) (gets.quits t);
+    }
+
+pub next : (name : List ℕ) (request : Request) (mid rest : List (List ℕ)) (old new : Holding) (w : World) (a : Answered) → IsRequest mid (Some request) rest → AnswersRequest name request old new w a → Next name mid rest old new w a
+next name (Text line text) mid rest old new w a is answers = taken name (string_bytes line) is.0 mid rest old new w a is.1 (answers is.0 (sym is.4))
+next name TooLong mid rest old new w a is answers = taken name is.0 is.1 mid rest old new w a is.2 (answers is.0 is.1 is.3)
+next name NotUtf8 mid rest old new w a is answers = taken name is.0 None mid rest old new w a is.1 (answers is.0 is.2)
+
+runs_push : (name : List ℕ) (es : List Exchange) (e : Exchange) (old mid new : Session) → Runs name es old mid → IsAnswered name e mid new → Runs name (es ++ e ∷ []) old new
+runs_push name [] e old mid new runs answered = (new, subst (λ (s : Session). IsAnswered name e s new) runs answered, refl)
+runs_push name (f ∷ es) e old mid new runs answered = (runs.0, runs.1, runs_push name es e runs.0 mid new runs.2 answered)
+
+run_push : (name : List ℕ) (es : List Exchange) (lines mid rest : List (List ℕ)) (start : Session) (old files : Holding) (w : World) (a : Answered) → IsRun name es lines mid start (session old w) → (n : Next name mid rest old files w a) → IsRun name (es ++ n.exchange ∷ []) lines rest start (session_after files a)
+run_push name es lines mid rest start old files w a run n = record {
+  runs = runs_push name es n.exchange start (session old w) (session_after files a) run.runs n.answered;
+  lines_are =
+      run.lines_are
+      ∙ (ap (λ (ls : List (List ℕ)). flat_map lines_in es ++ ls) n.lines_are
+      ∙ (sym (append_assoc (flat_map lines_in es) (lines_in n.exchange) rest) ∙ ap (λ (ls : List (List ℕ)). ls ++ rest) (flat_map_more lines_in [] es n.exchange)));
+}
+
+told_push : (es : List Exchange) (e : Exchange) (before after later bytes : List ℕ) → after ≡ before ++ flat_map reply_in es → bytes ≡ reply_in e → later ≡ after ++ bytes → later ≡ before ++ flat_map reply_in (es ++ e ∷ [])
+told_push es e before after later bytes told is more = more ∙ (ap (λ (b : List ℕ). after ++ b) is ∙ (ap (λ (b : List ℕ). b ++ reply_in e) told ∙ flat_map_more reply_in before es e))
+
+pub one_more : (name : List ℕ) (w last : World) (lines mid rest : List (List ℕ)) (old files new : Holding) (a : Answered) (before after later : List ℕ) → SoFar name w lines mid old files last before after → Next name mid rest files new last a
+    → later ≡ after ++ a.reply.items → SoFar name w lines rest old new (world_view a.world) before later
+one_more name w last lines mid rest old files new a before after later far n more = record {
+  exchanges = far.exchanges ++ n.exchange ∷ [];
+  run = run_push name far.exchanges lines mid rest (session old w) files new last a far.run n;
+  told = told_push far.exchanges n.exchange before after later a.reply.items far.told n.reply_is more;
+}
+
+-- ---- the end
+
+pub quit : (name : List ℕ) (w last : World) (lines mid rest : List (List ℕ)) (old files new : Holding) (a : Answered) (before after later : List ℕ) → SoFar name w lines mid old files last before after → Next name mid rest files new last a
+    → later ≡ after ++ a.reply.items → a.quits ≡ true → IsSessionOver name w lines old new before later
+quit name w last lines mid rest old files new a before after later far n more quits = record {
+  last = world_view a.world;
+  exchanges = far.exchanges ++ n.exchange ∷ [];
+  rest = rest;
+  run = run_push name far.exchanges lines mid rest (session old w) files new last a far.run n;
+  ended = inl (record { front = far.exchanges; last = n.exchange; are = refl; quits = n.quits quits });
+  told = told_push far.exchanges n.exchange before after later a.reply.items far.told n.reply_is more;
+}
+
+pub ended : (name : List ℕ) (w last : World) (lines mid rest : List (List ℕ)) (old files : Holding) (before after : List ℕ) → SoFar name w lines mid old files last before after → IsRequest mid None rest → IsSessionOver name w lines old files before after
+ended name w last lines mid rest old files before after far is = record { last = last; exchanges = far.exchanges; rest = mid; run = far.run; ended = inr is.0; told = far.told }
+
+-- ---- where it is stopped
+
+take_past : (xs ys : List ℕ) (n : ℕ) → take (length xs + n) (xs ++ ys) ≡ xs ++ take n ys
+take_past [] ys n = let e : zero + n ≡ n = omega arith in ap (λ (m : ℕ). take m ys) e
+take_past (x ∷ xs) ys n = let e : suc (length xs) + n ≡ suc (length xs + n) = omega arith in ap (λ (m : ℕ). take m (x ∷ (xs ++ ys))) e ∙ ap (λ (zs : List ℕ). x ∷ zs) (take_past xs ys n)
+
+told_in_part : (front bytes before after later : List ℕ) → after ≡ before ++ front → IsToldInPart bytes after later → IsToldInPart (front ++ bytes) before later
+told_in_part front bytes before after later told part = (
+  length front + part.0,
+  part.1 ∙ (ap (λ (b : List ℕ). b ++ take part.0 bytes) told ∙ (append_assoc before front (take part.0 bytes) ∙ ap (λ (b : List ℕ). before ++ b) (sym (take_past front bytes part.0)))),
+)
+
+-- between two lines
+pub stopped : (name : List ℕ) (w last : World) (lines mid : List (List ℕ)) (old files : Holding) (said : List ℕ) (s : Status) (before after later : List ℕ) → SoFar name w lines mid old files last before after → IsToldInPart (reply [] said s) after later
+    → IsStoppedOver name w lines s old files before later
+stopped name w last lines mid old files said s before after later far part = record {
+  last = last;
+  exchanges = far.exchanges;
+  rest = mid;
+  run = far.run;
+  said = said;
+  told = told_in_part (flat_map reply_in far.exchanges) (reply [] said s) before after later far.told part;
+}
+
+-- a part of the last answer alone was told
+cut : (es : List Exchange) (e : Exchange) (bytes end before after later : List ℕ) → after ≡ before ++ flat_map reply_in es → bytes ≡ reply_in e → IsCutShort after later bytes → IsToldInPart (flat_map reply_in (es ++ e ∷ []) ++ end) before later
+cut es e bytes end before after later told is short =
+    let front = flat_map reply_in es in
+    let whole : front ++ reply_in e ≡ flat_map reply_in (es ++ e ∷ []) = flat_map_more reply_in [] es e in
+    let within : short.count < length (reply_in e) = subst (λ (b : List ℕ). short.count < length b) is short.within in
+    let lengths = length-append front (reply_in e) in
+    let taken : take (length front + short.count) ((front ++ reply_in e) ++ end) ≡ front ++ take short.count (reply_in e) =
+    take-append-le (length front + short.count) (front ++ reply_in e) end (omega (arith, within, lengths)) ∙ take_past front (reply_in e) short.count in (
+      length front + short.count,
+      short.told
+          ∙ (ap (λ (b : List ℕ). b ++ take short.count bytes) told
+          ∙ (append_assoc before front (take short.count bytes)
+          ∙ ap (λ (b : List ℕ). before ++ b) (ap (λ (b : List ℕ). front ++ take short.count b) is ∙ (sym taken ∙ ap (λ (b : List ℕ). take (length front + short.count) (b ++ end)) whole)))),
+    )
+
+pub cut_off : (name : List ℕ) (w last : World) (lines mid rest : List (List ℕ)) (old files new : Holding) (a : Answered) (s : Status) (before after later : List ℕ) → SoFar name w lines mid old files last before after → Next name mid rest files new last a
+    → IsCutShort after later a.reply.items → IsStoppedOver name w lines s old new before later
+cut_off name w last lines mid rest old files new a s before after later far n short = record {
+  last = world_view a.world;
+  exchanges = far.exchanges ++ n.exchange ∷ [];
+  rest = rest;
+  run = run_push name far.exchanges lines mid rest (session old w) files new last a far.run n;
+  said = [];
+  told = cut far.exchanges n.exchange a.reply.items (reply [] [] s) before after later far.told n.reply_is short;
+}
+
+-- all of the bytes or a beginning of them were told
+pub in_part : {T E : Type 0} (r : Result T E) (tells : Bool) (bytes before after : List ℕ) → OnOk r (IsTrue tells → after ≡ before ++ bytes) → OnErr r (IsTrue tells → IsCutShort before after bytes) → IsTrue tells → IsToldInPart bytes before after
+in_part (Ok x) tells bytes before after put cut t = (length bytes, put t ∙ ap (λ (b : List ℕ). before ++ b) (sym (take_all (length bytes) bytes (omega arith))))
+in_part (Err e) tells bytes before after put cut t = ((cut t).count, (cut t).told)
