@@ -1,7 +1,7 @@
 -- What a line gets.
 use Rattle.std.proofs.Common.{◌≡◌, ◌≢◌, ℕ, ◌<◌, ◌≤◌, ◌⊎◌, List, [], ◌∷◌, ◌++◌, Bool, true, false, Option, Some, None, IsSome, IfSome, Bor, String, Vec, Global, codes, length, map, option_map, string_bytes, vec_len, refl, sym, ap, ap₂, subst, ◌∙◌, inl, inr, arith, append_assoc, append-nil}
 use Rattle.std.proofs.lemmas.Bool.{false≢true}
-use Rattle.std.proofs.lemmas.List.{length-map}
+use Rattle.std.proofs.lemmas.List.{length-map, same_from_push}
 use Rattle.sha2.specs.Sha256.{sha256}
 use Rattle.link.specs.declared.deployed.Deployed.{Deployed}
 use Rattle.spec_block.specs.Worlds.{Contract, World}
@@ -12,7 +12,7 @@ use Rattle.wblock_calls.specs.Words.{texts}
 use Rattle.wblock_io.specs.Holding.{Holding, Changes}
 use Rattle.wblock_line.specs.Answers.{EndsLine, Upshot, Written, Wrote, file_line, sentence_line, write_of}
 use Rattle.wblock_line.specs.Inputs.{HoldsWorld}
-use Rattle.wblock_line.specs.Transitions.{leaving, next_write}
+use Rattle.wblock_line.specs.Transitions.{WritesBeside, leaving, next_write}
 use Rattle.wblock_line.specs.declared.perform.Status.{Status}
 use Rattle.wblock_line.specs.declared.perform.Status.TheVariants as status
 use Rattle.wblock_line.specs.declared.transition.Change.{Change}
@@ -32,7 +32,7 @@ use Rattle.wblock_commands.specs.Does.{ComesTo, Reads}
 use Rattle.wblock_commands.specs.declared.command.Command.{Command}
 use Rattle.wblock_commands.specs.declared.command.Command.TheVariants.{Stored, Help, Version, Asm, Text, Check, Deploy, Mine, Validate, Call, Debug, Show}
 use Rattle.wblock_commands.specs.declared.command.Deploying.{Deploying}
-use Rattle.wblock_chain.specs.Answered.{AnswersAsked, AreApart, Gets, IsCarriedOut, IsExtended, IsFileReply, IsNotSaved, IsSaved, IsUndone, IsUsageReply, MovesOn, Quits, Settles, SettlesTransition, session_after, world_left}
+use Rattle.wblock_chain.specs.Answered.{AnswersAsked, AreApart, EndsTold, Gets, IsCarriedOut, IsExtended, IsFileReply, IsNotSaved, IsSaved, IsUndone, IsUsageReply, MovesOn, Quits, Settles, SettlesTransition, session_after, world_left}
 use Rattle.wblock_chain.specs.Plans.{FitsBeside, IsNoted, IsPlan, most_beside}
 use Rattle.wblock_chain.specs.Replies.{block_line, digest_line, saved_line}
 use Rattle.wblock_chain.specs.Requests.{AreShort}
@@ -96,6 +96,13 @@ fails name line calls c old new w file a asks same uses reply =
       }));
       quits = stays name line w [] said status.File a reply.moves;
     }
+
+-- the last of the writes is the one that is told
+pub apart_told : (all files : List Written) (last : Written) → all ≡ files ++ last ∷ [] → EndsTold all → AreApart all (Some last.1) files
+apart_told all files last e ends =
+    let same = (same_from_push files ends.front last (told_block, ends.bytes) (sym e ∙ ends.are)).1 in
+    let name : last.0 ≡ told_block = ap (λ (v : Written). v.0) same in
+    e ∙ ap (λ (n : List ℕ). files ++ (n, last.1) ∷ []) name
 
 -- ---- how the writes of a command stand: the block of `mine`, if any, and the world behind it
 
@@ -398,15 +405,15 @@ deployed name line calls task old new w contracts json a asks over plan same ext
           block = None;
           tells_block = λ some. absurd (false≢true some);
           wrote = (
-            standing name next (text_of_calls calls) None old,
-            next_world name w next (text_of_calls calls) None old task.world.now over.0,
+            standing name ext.next (text_of_calls calls) None old,
+            subst (λ (bytes : List ℕ). Changes holds (standing name ext.next (text_of_calls calls) None old) task.world.now bytes) ext.bytes_are (next_world name w ext.next (text_of_calls calls) None old task.world.now over.0),
             ap₂ (λ (v : World) (h : Holding). standing name v (text_of_calls calls) None h) ext.moves.world_is same,
           );
           kept = λ other is. ap (λ (h : Holding). h other) same;
           text_is = sym (append-nil ext.text);
         };
       }));
-      quits = stays name line next ext.text [] status.Done a ext.moves;
+      quits = stays name line ext.next ext.text [] status.Done a ext.moves;
     }
 
 linked : (name line : List ℕ) (calls : Option (List (List ℕ))) (c : Command) (old new : Holding) (w : World) (contracts : Vec (Deployed Global) Global) (json : Bool) (a : Answered) → Asks name line (Single c) → IsOver name c
@@ -423,6 +430,23 @@ linked name line calls (Text source target unchecked json-2) old new w contracts
 linked name line calls (Check target heap json-2) old new w contracts json a asks over plan same ext = absurd plan
 linked name line calls (Debug task) old new w contracts json a asks over plan same ext = absurd plan
 linked name line calls (Show task) old new w contracts json a asks over plan same ext = absurd plan
+
+-- what is left behind no other files is the world of these bytes
+left_some : (writes : List Written) (next : Option NextWorld) (file bytes : List ℕ) → length writes ≤ 0 → writes ++ next_write next ≡ (file, bytes) ∷ [] → next ≡ None → ⊥
+left_some [] None file bytes few e none = absurd cc
+left_some [] (Some n) file bytes few e none = absurd cc
+left_some (v ∷ vs) next file bytes few e none = omega (arith, few)
+
+left_bytes : (writes : List Written) (n : NextWorld) (file bytes : List ℕ) → length writes ≤ 0 → writes ++ next_write (Some n) ≡ (file, bytes) ∷ [] → world_bytes (world_view n.world) ≡ bytes
+left_bytes [] n file bytes few e = ap (λ (v : Written). v.1) (first _ _ _ _ e)
+left_bytes (v ∷ vs) n file bytes few e = absurd (omega (arith, few))
+
+pub leaves_some : (change : Change) (file bytes : List ℕ) → WritesBeside 0 (transition.Done change) → (leaving (transition.Done change)).writes ≡ (file, bytes) ∷ [] → change.next ≡ None → ⊥
+leaves_some change file bytes none e missing = left_some (map write_of change.writes.items) change.next file bytes (few_writes change 0 (let same : vec_len change.writes ≡ 0 = none in omega (arith, same))) e missing
+
+pub leaves_bytes : (change : Change) (n : NextWorld) (file bytes : List ℕ) → WritesBeside 0 (transition.Done change) → (leaving (transition.Done change)).writes ≡ (file, bytes) ∷ [] → change.next ≡ Some n → world_bytes (world_view n.world) ≡ bytes
+leaves_bytes change n file bytes none e is =
+    left_bytes (map write_of change.writes.items) n file bytes (few_writes change 0 (let same : vec_len change.writes ≡ 0 = none in omega (arith, same))) (subst (λ (o : Option NextWorld). map write_of change.writes.items ++ next_write o ≡ (file, bytes) ∷ []) is e)
 
 -- ---- what answers each line that asks for it
 

@@ -19,7 +19,7 @@ use Rattle.wblock_commands.specs.declared.command.Deploying.{Deploying}
 use Rattle.wblock_chain.specs.declared.asked.SessionCommand.{SessionCommand}
 use Rattle.wblock_chain.specs.declared.asked.SessionCommand.TheVariants.{Single, Save, Digest, Quit}
 use Rattle.wblock_chain.specs.Plans.{IsLone, IsLoneAsked}
-use Rattle.wblock_chain.specs.Words.{AreBeside, IsAsked, IsOver, IsOverWorld, calls_here, named, single_line, single_options, single_words, takes_calls, with_block, with_calls}
+use Rattle.wblock_chain.specs.Words.{AreBeside, IsAsked, IsOver, IsOwn, IsOverWorld, calls_here, named, single_line, single_options, single_words, takes_calls, with_block, with_calls}
 
 -- ---- lists
 
@@ -167,6 +167,15 @@ has_few line (Validate task) asks = within 4 1 64 task.workers _ (omega arith) (
 has_few line (Call task) asks = tt
 has_few line (Debug task) asks = tt
 has_few line (Show task) asks = tt
+
+-- ---- what is no single command's
+
+-- words that are none of the session's own ask for none of these
+pub nothing_own : (line : Line) → ((file : List ℕ) → line.words ≡ codes "save" ∷ file ∷ [] → line.options ≡ [] → ⊥) → (line.words ≡ codes "digest" ∷ [] → line.options ≡ [] → ⊥) → (line.words ≡ codes "quit" ∷ [] → line.options ≡ [] → ⊥) → (c : SessionCommand) → IsOwn line c → ⊥
+nothing_own line save digest quit (Single c) is = is
+nothing_own line save digest quit (Save file) is = save file.now is.0 is.1
+nothing_own line save digest quit Digest is = digest is.0 is.1
+nothing_own line save digest quit Quit is = quit is.0 is.1
 
 -- ---- calls behind a line that deploys
 

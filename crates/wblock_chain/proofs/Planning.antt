@@ -96,8 +96,8 @@ reads_block name w behind files task text file calls spelled over held is few sa
 
 -- ---- call
 
-pub called : (w : World) (task : Calling) (u : Upshot) (holds : Holding) → TellsExecution task.json w task.call u → HoldsWorld holds task.world.now w → Calls holds task u
-called w task u holds tells held = inr (record { world = w; held = held; tells = tells })
+pub called : (w : World) (task : Calling) (u : Upshot) (holds : Holding) → SpellsWorld (world_bytes w) w → TellsExecution task.json w task.call u → holds task.world.now ≡ Some (world_bytes w) → Calls holds task u
+called w task u holds spelled tells held = inr (record { world = w; held = record { bytes = world_bytes w; held = held; is = spelled }; tells = tells })
 
 -- ---- deploy
 
@@ -206,10 +206,10 @@ pub fits : (c : Command) (t : Transition) (count : ℕ) → count ≤ most_besid
 fits c (transition.Done change) count most beside = let same : vec_len change.writes ≡ count = beside in omega (arith, most, same)
 fits c (transition.Refused line why) count most beside = tt
 
--- a plan that is a transition of which this is true is one of which that is
-pub planned : (P Q : Transition → Type 0) (R : Plan → Type 0) (p : Plan) → ((t : Transition) → P t → Q t → R (Made t)) → IsPlanned P p → IsPlanned Q p → R p
-planned P Q R (Made t) both a b = both t a b
-planned P Q R (Linked contracts json) both a b = absurd a
+-- what is true of a plan follows from what is true of its transition
+pub as_planned : (P : Transition → Type 0) (R : Plan → Type 0) (p : Plan) → ((t : Transition) → P t → R (Made t)) → IsPlanned P p → R p
+as_planned P R (Made t) follows is = follows t is
+as_planned P R (Linked contracts json) follows is = absurd is
 
 one_most : (c : Command) → most_beside c ≤ 1
 one_most (Mine task) = omega arith

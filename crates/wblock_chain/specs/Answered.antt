@@ -83,12 +83,14 @@ abbrev pub SettlesTransition : Transition → (old new : Holding) → World → 
 SettlesTransition (transition.Done change) old new world a = Settles change old new world a
 SettlesTransition (transition.Refused line why) old new world a = (new ≡ old) × MovesOn world (string_bytes line) (string_bytes why ++ 10 ∷ []) status.Refused a
 
--- the session goes on with these contracts behind those of the world
+-- the session goes on with a world of the bytes of the one that has these contracts behind its own
 pub record IsExtended (json : Bool) (base : World) (contracts : List Contract) (a : Answered) : Type 0 where
   pub name : Bor (List ℕ)
   pub text : List ℕ
   pub text_is : IsDeployedText json (length contracts) (Some name) (length base.contracts) text
-  pub moves : MovesOn (extended base contracts) text [] status.Done a
+  pub next : World
+  pub bytes_are : world_bytes next ≡ world_bytes (extended base contracts)
+  pub moves : MovesOn next text [] status.Done a
 
 -- the world was saved, or the file failed
 pub record IsSaved (file : List ℕ) (old new : Holding) (world : World) (a : Answered) : Type 0 where

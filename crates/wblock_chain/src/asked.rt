@@ -90,9 +90,10 @@ fn single_words_of<'a>(
     made.push(*word)?;
     made.push(name)?;
     made.extend_from_slice(others)?;
-    if is_word(*word, "mine") {
-        made.push(name)?;
+    if !is_word(*word, "mine") {
+        return Ok(made);
     }
+    made.push(name)?;
     Ok(made)
 }
 
@@ -106,13 +107,16 @@ fn single_options_of<'a>(
 {
     let mut made = Vec::new(alloc);
     made.extend_from_slice(line.options.as_slice())?;
-    if let Some(word) = line.words.first() {
-        if is_word(*word, "validate") {
-            made.push(("--next", name))?;
-        }
-        if is_word(*word, "deploy") {
-            made.push(("--onto", name))?;
-        }
+    let Some(word) = line.words.first() else {
+        return Ok(made);
+    };
+    if is_word(*word, "validate") {
+        made.push(("--next", name))?;
+        return Ok(made);
+    }
+    if is_word(*word, "deploy") {
+        made.push(("--onto", name))?;
+        return Ok(made);
     }
     Ok(made)
 }

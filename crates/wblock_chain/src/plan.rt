@@ -5,7 +5,7 @@ ghost use Rattle.world.specs.Views.{world_view};
 ghost use Rattle.wblock_line.specs.Answers.{CountsFault, IsOfFile, upshot_of, writes_of};
 ghost use Rattle.wblock_line.specs.Transitions.{leaving, note_in, WritesBeside};
 ghost use Rattle.wblock_line.specs.Upshots.{IsRefusalWith};
-ghost use Rattle.wblock_line.specs.Inputs.{HoldsWorld};
+ghost use Rattle.spec_block.specs.Bytes.{world_bytes};
 ghost use Rattle.wblock_io.specs.Holding.{Holding};
 ghost use Rattle.wblock_commands.specs.Words.{HasFew};
 ghost use Rattle.wblock_commands.specs.Does.{Reads};
@@ -196,7 +196,7 @@ fn plan_validate<'w, R: Threads + Wait + Sync, F: Files, P: Pace>(
 
 /// What `call` comes to.
 fn plan_call<'w>(alloc: Global, world: &World, task: &Calling<'w>) -> Result<Plan<'w>, Fault<'w>>
-    ensures plan { IfOk result (λ plan. (holds : Holding) → HoldsWorld holds task.now.world.now (world_view world.now) → IsPlan (Command.Call task.now) holds (world_view world.now) plan) }
+    ensures plan { IfOk result (λ plan. (holds : Holding) → holds task.now.world.now ≡ Some (world_bytes (world_view world.now)) → IsPlan (Command.Call task.now) holds (world_view world.now) plan) }
     ensures beside { IfOk result (FitsBeside (Command.Call task.now)) }
     ensures noted { IfOk result IsNoted }
     ensures fault { IfErr result (λ f. f ≡ Fault.NoMemory) }

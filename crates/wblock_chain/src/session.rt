@@ -7,7 +7,7 @@ ghost use Rattle.world.specs.Views.{contract_view, world_view};
 ghost use Rattle.wblock_line.specs.Answers.{IsSaid, file_line, memory_line, sentence_line, write_of};
 ghost use Rattle.wblock_line.specs.declared.perform.Status.{Status as Shown};
 ghost use Rattle.wblock_commands.specs.Words.{HasFew};
-ghost use Rattle.wblock_chain.specs.Answered.{AnswersAsked, AnswersText, AnswersRequest, AreApart, EndsTold, IsExtended, IsFileReply, IsNotSaved, IsSaved, IsUsageReply, MovesOn, Quits, Settles, SettlesTransition};
+ghost use Rattle.wblock_chain.specs.Answered.{AnswersAsked, AnswersText, AnswersRequest, AreApart, EndsTold, IsExtended, IsFileReply, IsNotSaved, IsSaved, IsUsageReply, MovesOn, Quits, Settles, SettlesTransition, world_left};
 ghost use Rattle.wblock_calls.specs.Texts.{words_of};
 ghost use Rattle.wblock_chain.specs.Plans.{FitsOne, IsLone, IsLoneAsked};
 ghost use Rattle.wblock_chain.specs.Requests.{TakesCalls};
@@ -29,8 +29,8 @@ use std::thread::Threads;
 use wblock_commands::Command;
 use wblock_io::{Cause, Files, LineFault, Lines, WriteFault, write_file};
 use wblock_line::{
-    Change, Fault, Status, Transition, WorldFile, Write, is_word, read_world_file, split_words,
-    tell_fault, write_files,
+    Change, Fault, NextWorld, Status, Transition, WorldFile, Write, is_word, read_world_file,
+    split_words, tell_fault, write_files,
 };
 use wblock_modules::extend;
 use world::{World, digest_world, encode_world};
@@ -124,6 +124,16 @@ fn text_with_block(alloc: Global, text: &str, block: &Option<Vec<u8>>) -> Result
     format!(in alloc; "{text}{line}")
 }
 
+/// The world that is left, or else this one.
+fn world_after(next: Option<NextWorld>, world: World) -> World
+    ensures { world_view result ≡ world_left next.entry (world_view world) }
+{
+    match next {
+        Some(next) => next.world,
+        None => world,
+    }
+}
+
 /// Writes the files of a change, and goes on with the world that it leaves; or, where a file fails, with the world before it. The answer is made before the
 /// first file is written, so that want of memory leaves all files as they were.
 fn settle<'w, F: Files>(
@@ -148,12 +158,8 @@ fn settle<'w, F: Files>(
     if let Err((name, cause)) = write_files(files, writes.as_slice()) {
         return failed(alloc, world, name, cause);
     }
-    let world = match next {
-        Some(next) => next.world,
-        None => world,
-    };
     Ok(Answered {
-        world,
+        world: world_after(next, world),
         reply,
         quits: false,
     })
@@ -190,17 +196,17 @@ fn settle_contracts(
     requires { length (world_view world).contracts + vec_len contracts ≤ 1024 }
     ensures { IfOk result (IsExtended json (world_view world) (map contract_view contracts.items)) }
 {
-    match extend(alloc, json, name, Some(name), world, contracts)? {
-        Transition::Done(
-            Change {
-                writes: _writes,
-                next: Some(next),
-                text,
-                note: _note,
-            },
-        ) => answer_with(alloc, next.world, text.as_str(), "", Status::Done),
-        _ => unreachable!(),
-    }
+    let Transition::Done(change) = extend(alloc, json, name, Some(name), world, contracts)? else {
+        unreachable!()
+    };
+    let Change {
+        writes: _writes,
+        next,
+        text,
+        note: _note,
+    } = change;
+    let Some(next) = next else { unreachable!() };
+    answer_with(alloc, next.world, text.as_str(), "", Status::Done)
 }
 
 /// The answer to a single command.
