@@ -1,7 +1,7 @@
 -- What a line gets.
-use Rattle.std.proofs.Common.{◌≡◌, ◌≢◌, ℕ, ◌<◌, ◌≤◌, ◌⊎◌, List, [], ◌∷◌, ◌++◌, Bool, true, false, Option, Some, None, IsSome, IfSome, Bor, String, Vec, Global, codes, length, map, option_map, string_bytes, vec_len, refl, sym, ap, ap₂, subst, ◌∙◌, inl, inr, arith, append_assoc, append-nil}
-use Rattle.std.proofs.lemmas.Bool.{false≢true}
-use Rattle.std.proofs.lemmas.List.{length-map, same_from_push}
+use Rattle.std.proofs.Common.{◌≡◌, ◌≢◌, ◌↔◌, ℕ, ◌<◌, ◌≤◌, ◌⊎◌, List, [], ◌∷◌, ◌++◌, Bool, true, false, Option, Some, None, IsSome, is_some, IfSome, Bor, String, Vec, Global, codes, length, map, option_map, string_bytes, vec_len, refl, sym, ap, ap₂, subst, ◌∙◌, inl, inr, arith, append_assoc, append-nil}
+use Rattle.std.proofs.lemmas.Bool.{both_ways, false≢true}
+use Rattle.std.proofs.lemmas.List.{length-map, length_push, same_from_push}
 use Rattle.sha2.specs.Sha256.{sha256}
 use Rattle.link.specs.declared.deployed.Deployed.{Deployed}
 use Rattle.spec_block.specs.Worlds.{Contract, World}
@@ -10,7 +10,7 @@ use Rattle.spec_block.specs.Verdicts.{Verdict, Accept, Malformed, WrongWorld, Wr
 use Rattle.world.specs.Views.{contract_view, world_view}
 use Rattle.wblock_calls.specs.Words.{texts}
 use Rattle.wblock_io.specs.Holding.{Holding, Changes}
-use Rattle.wblock_line.specs.Answers.{EndsLine, Upshot, Written, Wrote, file_line, sentence_line, write_of}
+use Rattle.wblock_line.specs.Answers.{EndsLine, Upshot, Written, Wrote, WroteSome, file_line, sentence_line, write_of}
 use Rattle.wblock_line.specs.Inputs.{HoldsWorld}
 use Rattle.wblock_line.specs.Transitions.{WritesBeside, leaving, next_write}
 use Rattle.wblock_line.specs.declared.perform.Status.{Status}
@@ -25,7 +25,7 @@ use Rattle.wblock_blocks.specs.declared.mine.Mining.{Mining}
 use Rattle.wblock_blocks.specs.declared.validate.Validation.{Validation}
 use Rattle.wblock_call.specs.Calling.{Calls}
 use Rattle.wblock_call.specs.declared.called.Calling.{Calling}
-use Rattle.wblock_modules.specs.Deploys.{AreHeld, Deploys, Extends, IsDeployedText, IsOld, IsReadBehind, extended}
+use Rattle.wblock_modules.specs.Deploys.{AreHeld, Deploys, Extends, IsDeployedText, IsDone, IsOld, IsReadBehind, extended}
 use Rattle.wblock_modules.specs.Objects.{deployed_data}
 use Rattle.wblock_modules.specs.declared.deploy.Modules.TheVariants as modules
 use Rattle.wblock_commands.specs.Does.{ComesTo, Reads}
@@ -36,12 +36,13 @@ use Rattle.wblock_chain.specs.Answered.{AnswersAsked, AreApart, EndsTold, Gets, 
 use Rattle.wblock_chain.specs.Plans.{FitsBeside, IsNoted, IsPlan, most_beside}
 use Rattle.wblock_chain.specs.Replies.{block_line, digest_line, saved_line}
 use Rattle.wblock_chain.specs.Requests.{AreShort}
-use Rattle.wblock_chain.specs.Sessions.{IsKeptName, Session, TellsBlock, Uses, standing, text_of_calls}
+use Rattle.wblock_chain.specs.Sessions.{Exchange, IsKeptName, IsQuit, Session, TellsBlock, Uses, standing, text_of_calls}
 use Rattle.wblock_chain.specs.Words.{Asks, IsOver, calls_here, told_block}
 use Rattle.wblock_chain.specs.declared.asked.SessionCommand.{SessionCommand}
 use Rattle.wblock_chain.specs.declared.asked.SessionCommand.TheVariants.{Single, Save, Digest, Quit}
 use Rattle.wblock_chain.specs.declared.plan.Plan.TheVariants.{Made, Linked}
 use Rattle.wblock_chain.specs.declared.session.Answered.{Answered}
+use Rattle.wblock_chain.proofs.Asking.{no_quit}
 use Rattle.wblock_chain.proofs.Planning.{free, old_world}
 use Rattle.wblock_chain.proofs.Standing.{kept, next_world, told, written}
 
@@ -57,28 +58,44 @@ session files w = record { files = files; world = w }
 same_session : (old new : Holding) (w : World) (a : Answered) → new ≡ old → world_view a.world ≡ w → session_after new a ≡ session old w
 same_session old new w a files world = ap₂ session files world
 
-stays : (name line : List ℕ) (w : World) (text said : List ℕ) (s : Status) (a : Answered) → MovesOn w text said s a → a.quits ≡ true → Asks name line Quit
-stays name line w text said s a moves quits = absurd (false≢true (sym moves.goes_on ∙ quits))
+-- a session that moves on ends where the line was `quit`, which it was not
+stays : (name : List ℕ) (e : Exchange) (w : World) (text said : List ℕ) (s : Status) (a : Answered) → MovesOn w text said s a → (IsQuit name e → ⊥) → (a.quits ≡ true) ↔ IsQuit name e
+stays name e w text said s a moves no = (λ quits. absurd (both_ways a.quits moves.goes_on quits), λ is. absurd (no is))
+
+-- what is not done is no `quit`
+not_done : (name : List ℕ) (e : Exchange) (s : Status) → e.status ≡ s → (s ≡ status.Done → ⊥) → IsQuit name e → ⊥
+not_done name e s is no quits = no (sym is ∙ quits.status_is)
+
+usage_not_done : status.Usage ≡ status.Done → ⊥
+usage_not_done e = absurd cc
+
+file_not_done : status.File ≡ status.Done → ⊥
+file_not_done e = absurd cc
+
+refused_not_done : status.Refused ≡ status.Done → ⊥
+refused_not_done e = absurd cc
 
 -- ---- nothing is asked for, or a file failed
 
 pub asks_nothing : (name line : List ℕ) (calls : Option (List (List ℕ))) (old new : Holding) (w : World) (a : Answered) → new ≡ old → IsUsageReply w a
     → ((1048576 < length line) ⊎ ¬ IfSome calls AreShort) ⊎ ((c : SessionCommand) → ¬ Asks name line c) → Gets name line calls old new w a
-asks_nothing name line calls old new w a same reply nothing = record {
-  exchange = record { line = line; calls = calls; status = status.Usage; text = []; said = reply.said };
-  line_is = refl;
-  calls_are = refl;
-  said = inr reply.ends_line;
-  reply_is = reply.moves.reply_is;
-  answer = inl (record { status_is = refl; nothing = nothing; same = same_session old new w a same reply.moves.world_is; text_is = refl });
-  quits = stays name line w [] reply.said status.Usage a reply.moves;
-}
+asks_nothing name line calls old new w a same reply nothing =
+    let e : Exchange = record { line = line; calls = calls; status = status.Usage; text = []; said = reply.said } in record {
+      exchange = e;
+      line_is = refl;
+      calls_are = refl;
+      said = inr reply.ends_line;
+      reply_is = reply.moves.reply_is;
+      answer = inl (record { status_is = refl; nothing = nothing; same = same_session old new w a same reply.moves.world_is; text_is = refl });
+      quits = stays name e w [] reply.said status.Usage a reply.moves (not_done name e status.Usage refl usage_not_done);
+    }
 
 pub fails : (name line : List ℕ) (calls : Option (List (List ℕ))) (c : SessionCommand) (old new : Holding) (w : World) (file : List ℕ) (a : Answered) → Asks name line c → new ≡ old
     → Uses c (standing name w (text_of_calls calls) None old) file → IsFileReply w file a → Gets name line calls old new w a
 fails name line calls c old new w file a asks same uses reply =
-    let said = file_line file ++ sentence_line reply.why in record {
-      exchange = record { line = line; calls = calls; status = status.File; text = []; said = said };
+    let said = file_line file ++ sentence_line reply.why in
+    let e : Exchange = record { line = line; calls = calls; status = status.File; text = []; said = said } in record {
+      exchange = e;
       line_is = refl;
       calls_are = refl;
       said = inr (file_said file reply.why);
@@ -94,7 +111,7 @@ fails name line calls c old new w file a asks same uses reply =
         same = same_session old new w a same reply.moves.world_is;
         text_is = refl;
       }));
-      quits = stays name line w [] said status.File a reply.moves;
+      quits = stays name e w [] said status.File a reply.moves (not_done name e status.File refl file_not_done);
     }
 
 -- the last of the writes is the one that is told
@@ -303,8 +320,9 @@ carried name line calls c old new w change a asks over comes few noted out =
     let writes = map write_of change.writes.items in
     let does = over_beside name c (text_of_calls calls) old new w change.next writes out.block out.files stand.left stand.beside out.apart out.wrote in
     let text = string_bytes change.text ++ block_line out.block in
-    let said = string_bytes change.note in record {
-      exchange = record { line = line; calls = calls; status = status.Done; text = text; said = said };
+    let said = string_bytes change.note in
+    let e : Exchange = record { line = line; calls = calls; status = status.Done; text = text; said = said } in record {
+      exchange = e;
       line_is = refl;
       calls_are = refl;
       said = noted;
@@ -323,7 +341,7 @@ carried name line calls c old new w change a asks over comes few noted out =
           text_is = refl;
         };
       }));
-      quits = stays name line (world_left change.next w) text said status.Done a out.moves;
+      quits = stays name e (world_left change.next w) text said status.Done a out.moves (λ is. no_quit name line (Single c) tt asks is.asks);
     }
 
 done : (name line : List ℕ) (calls : Option (List (List ℕ))) (c : Command) (old new : Holding) (w : World) (change : Change) (a : Answered) → Asks name line (Single c) → IsOver name c → ComesTo c (standing name w (text_of_calls calls) None old) (leaving (transition.Done change))
@@ -335,28 +353,29 @@ done name line calls c old new w change a asks over comes few noted (inr undone)
 
 refused : (name line : List ℕ) (calls : Option (List (List ℕ))) (c : Command) (old new : Holding) (w : World) (told why : String Global) (a : Answered) → Asks name line (Single c) → ComesTo c (standing name w (text_of_calls calls) None old) (leaving (transition.Refused told why)) → new ≡ old
     → MovesOn w (string_bytes told) (string_bytes why ++ 10 ∷ []) status.Refused a → Gets name line calls old new w a
-refused name line calls c old new w told why a asks comes same moves = record {
-  exchange = record { line = line; calls = calls; status = status.Refused; text = string_bytes told; said = string_bytes why ++ 10 ∷ [] };
-  line_is = refl;
-  calls_are = refl;
-  said = inr (string_bytes why, refl);
-  reply_is = moves.reply_is;
-  answer = inr (inr (record {
-    command = Single c;
-    asks = asks;
-    does = record {
-      upshot = leaving (transition.Refused told why);
-      comes = comes;
-      status_is = refl;
-      block = None;
-      tells_block = λ some. absurd (false≢true some);
-      wrote = ap₂ (λ (v : World) (h : Holding). standing name v (text_of_calls calls) None h) moves.world_is same;
-      kept = λ other is. ap (λ (h : Holding). h other) same;
-      text_is = sym (append-nil (string_bytes told));
-    };
-  }));
-  quits = stays name line w (string_bytes told) (string_bytes why ++ 10 ∷ []) status.Refused a moves;
-}
+refused name line calls c old new w told why a asks comes same moves =
+    let e : Exchange = record { line = line; calls = calls; status = status.Refused; text = string_bytes told; said = string_bytes why ++ 10 ∷ [] } in record {
+      exchange = e;
+      line_is = refl;
+      calls_are = refl;
+      said = inr (string_bytes why, refl);
+      reply_is = moves.reply_is;
+      answer = inr (inr (record {
+        command = Single c;
+        asks = asks;
+        does = record {
+          upshot = leaving (transition.Refused told why);
+          comes = comes;
+          status_is = refl;
+          block = None;
+          tells_block = λ some. absurd (false≢true some);
+          wrote = ap₂ (λ (v : World) (h : Holding). standing name v (text_of_calls calls) None h) moves.world_is same;
+          kept = λ other is. ap (λ (h : Holding). h other) same;
+          text_is = sym (append-nil (string_bytes told));
+        };
+      }));
+      quits = stays name e w (string_bytes told) (string_bytes why ++ 10 ∷ []) status.Refused a moves (not_done name e status.Refused refl refused_not_done);
+    }
 
 held_count : (holds : Holding) (names : List (List ℕ)) (cs : List Contract) → AreHeld holds names cs → length names ≡ length cs
 held_count holds [] [] are = refl
@@ -389,8 +408,9 @@ deployed name line calls task old new w contracts json a asks over plan same ext
         room = record { is_base = old_world holds name w task.onto over.1 (subst (λ (n : List ℕ). HoldsWorld holds n w) over.0 plan.1); room = read.0 };
         extends = inl (record { contracts = cs; held = read.1; is = record { status_is = refl; writes = refl; text = text_of_task } });
       });
-    } in record {
-      exchange = record { line = line; calls = calls; status = status.Done; text = ext.text; said = [] };
+    } in
+    let e : Exchange = record { line = line; calls = calls; status = status.Done; text = ext.text; said = [] } in record {
+      exchange = e;
       line_is = refl;
       calls_are = refl;
       said = inl refl;
@@ -413,7 +433,7 @@ deployed name line calls task old new w contracts json a asks over plan same ext
           text_is = sym (append-nil ext.text);
         };
       }));
-      quits = stays name line ext.next ext.text [] status.Done a ext.moves;
+      quits = stays name e ext.next ext.text [] status.Done a ext.moves (λ is. no_quit name line (Single (Deploy task)) tt asks is.asks);
     }
 
 linked : (name line : List ℕ) (calls : Option (List (List ℕ))) (c : Command) (old new : Holding) (w : World) (contracts : Vec (Deployed Global) Global) (json : Bool) (a : Answered) → Asks name line (Single c) → IsOver name c
@@ -448,6 +468,84 @@ pub leaves_bytes : (change : Change) (n : NextWorld) (file bytes : List ℕ) →
 leaves_bytes change n file bytes none e is =
     left_bytes (map write_of change.writes.items) n file bytes (few_writes change 0 (let same : vec_len change.writes ≡ 0 = none in omega (arith, same))) (subst (λ (o : Option NextWorld). map write_of change.writes.items ++ next_write o ≡ (file, bytes) ∷ []) is e)
 
+pub leaves_next : (change : Change) (next : Option NextWorld) (file bytes : List ℕ) → change.next ≡ next → WritesBeside 0 (transition.Done change) → (leaving (transition.Done change)).writes ≡ (file, bytes) ∷ [] → IsSome change.next
+leaves_next change None file bytes is none e = absurd (leaves_some change file bytes none e is)
+leaves_next change (Some n) file bytes is none e = ap is_some is
+
+extended_by : (json : Bool) (name : Bor (List ℕ)) (base : World) (cs : List Contract) (count : ℕ) (change : Change) (next : Option NextWorld) (a : Answered) → change.next ≡ next → count ≡ length cs → WritesBeside 0 (transition.Done change)
+    → IsDone json name.now (world_bytes (extended base cs)) count (Some name) (length base.contracts) (leaving (transition.Done change)) → IfSome next (λ n. MovesOn (world_view n.world) (string_bytes change.text) [] status.Done a) → IsExtended json base cs a
+extended_by json name base cs count change None a is few none done moves = absurd (leaves_some change name.now (world_bytes (extended base cs)) none done.writes is)
+extended_by json name base cs count change (Some n) a is few none done moves = record {
+  name = name;
+  text = string_bytes change.text;
+  text_is = subst (λ (k : ℕ). IsDeployedText json k (Some name) (length base.contracts) (string_bytes change.text)) few done.text;
+  next = world_view n.world;
+  bytes_are = leaves_bytes change n name.now (world_bytes (extended base cs)) none done.writes is;
+  moves = moves;
+}
+
+pub goes_on_with : (json : Bool) (name : Bor (List ℕ)) (base : World) (contracts : Vec (Deployed Global) Global) (change : Change) (a : Answered) → WritesBeside 0 (transition.Done change)
+    → IsDone json name.now (world_bytes (extended base (map contract_view contracts.items))) (vec_len contracts) (Some name) (length base.contracts) (leaving (transition.Done change)) → IfSome change.next (λ n. MovesOn (world_view n.world) (string_bytes change.text) [] status.Done a)
+    → IsExtended json base (map contract_view contracts.items) a
+goes_on_with json name base contracts change a none done moves =
+    let count = contracts.ok.0 in
+    let mapped = length-map contracts.items contract_view in
+    let same : vec_len contracts ≡ length (map contract_view contracts.items) = omega (arith, count, mapped) in
+    extended_by json name base (map contract_view contracts.items) (vec_len contracts) change change.next a refl same none done moves
+
+-- ---- what is carried out, or undone
+
+-- where at most one file is to be written and one failed, none was written
+only_first : (name : List ℕ) (files : List Written) (old new : Holding) → length files ≤ 1 → WroteSome name files old new → new ≡ old
+only_first name [] old new few some = absurd some
+only_first name (v ∷ []) old new few (inl first) = first.1
+only_first name (v ∷ []) old new few (inr more) = absurd more.2
+only_first name (v ∷ w ∷ vs) old new few some = absurd (omega (arith, few))
+
+-- it is the first of the writes
+is_first : (name : List ℕ) (files : List Written) (old new : Holding) → length files ≤ 1 → WroteSome name files old new → (bytes : List ℕ) × (files ≡ (name, bytes) ∷ [])
+is_first name [] old new few some = absurd some
+is_first name (v ∷ []) old new few (inl first) = (v.1, ap (λ (n : List ℕ). (n, v.1) ∷ []) (sym first.0))
+is_first name (v ∷ []) old new few (inr more) = absurd more.2
+is_first name (v ∷ w ∷ vs) old new few some = absurd (omega (arith, few))
+
+-- a block that is told leaves no file to be written
+few_files : (writes : List Written) (block : Option (List ℕ)) (files : List Written) → length writes ≤ 1 → AreApart writes block files → length files ≤ 1
+few_files writes (Some b) files few apart =
+    let count = length_push files (told_block, b) in
+    let same = ap (λ (ws : List Written). length ws) apart in
+    omega (arith, few, count, same)
+few_files writes None files few apart = let same = ap (λ (ws : List Written). length ws) apart.0 in omega (arith, few, same)
+
+are_files : (writes : List Written) (block : Option (List ℕ)) (files : List Written) (name bytes : List ℕ) → length writes ≤ 1 → AreApart writes block files → files ≡ (name, bytes) ∷ [] → writes ≡ (name, bytes) ∷ []
+are_files writes (Some b) files name bytes few apart is =
+    let count = length_push files (told_block, b) in
+    let same = ap (λ (ws : List Written). length ws) apart in
+    let one = ap (λ (ws : List Written). length ws) is in
+    absurd (omega (arith, few, count, same, one))
+are_files writes None files name bytes few apart is = apart.0 ∙ is
+
+pub nothing_written : (change : Change) (block : Option (List ℕ)) (files : List Written) (name : List ℕ) (old new : Holding) → vec_len change.writes ≤ 1 → AreApart (map write_of change.writes.items) block files → WroteSome name files old new → new ≡ old
+nothing_written change block files name old new few apart some = only_first name files old new (few_files (map write_of change.writes.items) block files (few_writes change 1 few) apart) some
+
+pub undone : (change : Change) (block : Option (List ℕ)) (files : List Written) (name : List ℕ) (old new : Holding) (w : World) (a : Answered) → vec_len change.writes ≤ 1 → AreApart (map write_of change.writes.items) block files → WroteSome name files old new
+    → IsFileReply w name a → IsUndone change old new w a
+undone change block files name old new w a few apart some reply =
+    let all = map write_of change.writes.items in
+    let most = few_writes change 1 few in
+    let first = is_first name files old new (few_files all block files most apart) some in record {
+      file = name;
+      bytes = first.0;
+      others = [];
+      writes = are_files all block files name first.0 most apart first.1;
+      same = nothing_written change block files name old new few apart some;
+      reply = reply;
+    }
+
+-- an answer of other, equal parts
+pub moved : (w : World) (text told said why : List ℕ) (s : Status) (a : Answered) → text ≡ told → said ≡ why → MovesOn w text said s a → MovesOn w told why s a
+moved w text told said why s a t y moves = subst (λ (b : List ℕ). MovesOn w told b s a) y (subst (λ (b : List ℕ). MovesOn w b said s a) t moves)
+
 -- ---- what answers each line that asks for it
 
 abbrev stood : List ℕ → World → Holding → Option (List ℕ) → Holding
@@ -480,38 +578,40 @@ answers_failed name c behind old new w file a reads files reply line calls same 
 -- ---- `save`, `digest` and `quit`
 
 saved : (name line : List ℕ) (calls : Option (List (List ℕ))) (file : Bor (List ℕ)) (old new : Holding) (w : World) (a : Answered) → Asks name line (Save file) → IsSaved file.now old new w a ⊎ IsNotSaved file.now old new w a → Gets name line calls old new w a
-saved name line calls file old new w a asks (inl is) = record {
-  exchange = record { line = line; calls = calls; status = status.Done; text = saved_line (length (world_bytes w)); said = [] };
-  line_is = refl;
-  calls_are = refl;
-  said = inl refl;
-  reply_is = is.moves.reply_is;
-  answer = inr (inr (record {
-    command = Save file;
-    asks = asks;
-    does = record { status_is = refl; changes = is.changes; world = is.moves.world_is; text_is = refl };
-  }));
-  quits = stays name line w (saved_line (length (world_bytes w))) [] status.Done a is.moves;
-}
+saved name line calls file old new w a asks (inl is) =
+    let e : Exchange = record { line = line; calls = calls; status = status.Done; text = saved_line (length (world_bytes w)); said = [] } in record {
+      exchange = e;
+      line_is = refl;
+      calls_are = refl;
+      said = inl refl;
+      reply_is = is.moves.reply_is;
+      answer = inr (inr (record {
+        command = Save file;
+        asks = asks;
+        does = record { status_is = refl; changes = is.changes; world = is.moves.world_is; text_is = refl };
+      }));
+      quits = stays name e w (saved_line (length (world_bytes w))) [] status.Done a is.moves (λ quits. no_quit name line (Save file) tt asks quits.asks);
+    }
 saved name line calls file old new w a asks (inr is) = fails name line calls (Save file) old new w file.now a asks is.same refl is.reply
 
 pub answers_save : (name : List ℕ) (file : Bor (List ℕ)) (behind : Option (List ℕ)) (old new : Holding) (w : World) (a : Answered) → IsSaved file.now old new w a ⊎ IsNotSaved file.now old new w a → AnswersAsked name (Save file) behind old new w a
 answers_save name file behind old new w a is line calls same asks = saved name line calls file old new w a asks is
 
 pub answers_digest : (name : List ℕ) (behind : Option (List ℕ)) (old new : Holding) (w : World) (a : Answered) → new ≡ old → MovesOn w (digest_line (sha256 (world_bytes w))) [] status.Done a → AnswersAsked name Digest behind old new w a
-answers_digest name behind old new w a files moves line calls same asks = record {
-  exchange = record { line = line; calls = calls; status = status.Done; text = digest_line (sha256 (world_bytes w)); said = [] };
-  line_is = refl;
-  calls_are = refl;
-  said = inl refl;
-  reply_is = moves.reply_is;
-  answer = inr (inr (record {
-    command = Digest;
-    asks = asks;
-    does = record { status_is = refl; same = same_session old new w a files moves.world_is; text_is = refl };
-  }));
-  quits = stays name line w (digest_line (sha256 (world_bytes w))) [] status.Done a moves;
-}
+answers_digest name behind old new w a files moves line calls same asks =
+    let e : Exchange = record { line = line; calls = calls; status = status.Done; text = digest_line (sha256 (world_bytes w)); said = [] } in record {
+      exchange = e;
+      line_is = refl;
+      calls_are = refl;
+      said = inl refl;
+      reply_is = moves.reply_is;
+      answer = inr (inr (record {
+        command = Digest;
+        asks = asks;
+        does = record { status_is = refl; same = same_session old new w a files moves.world_is; text_is = refl };
+      }));
+      quits = stays name e w (digest_line (sha256 (world_bytes w))) [] status.Done a moves (λ quits. no_quit name line Digest tt asks quits.asks);
+    }
 
 pub answers_quit : (name : List ℕ) (behind : Option (List ℕ)) (old new : Holding) (w : World) (a : Answered) → new ≡ old → Quits w a → AnswersAsked name Quit behind old new w a
 answers_quit name behind old new w a files is line calls same asks = record {
@@ -525,5 +625,5 @@ answers_quit name behind old new w a files is line calls same asks = record {
     asks = asks;
     does = record { status_is = refl; same = same_session old new w a files is.world_is; text_is = refl };
   }));
-  quits = λ ends. asks;
+  quits = (λ ends. record { status_is = refl; asks = asks }, λ quits. is.ends);
 }

@@ -1,5 +1,5 @@
 -- What the words of a line ask for is over the session's world.
-use Rattle.std.proofs.Common.{◌≡◌, ◌≢◌, ℕ, ◌+◌, ◌≤◌, ◌⊎◌, List, [], ◌∷◌, ◌++◌, Bool, true, false, ◌||◌, Option, Some, None, IfSome, Bor, bytes_eq, codes, length, if◌then◌else◌, refl, sym, ap, subst, ◌∙◌, inl, inr, arith}
+use Rattle.std.proofs.Common.{◌≡◌, ◌≢◌, ℕ, ◌+◌, ◌≤◌, ◌⊎◌, List, [], ◌∷◌, ◌++◌, Bool, true, false, ◌||◌, Option, Some, None, IfSome, MatchOption, Bor, bytes_eq, codes, length, if◌then◌else◌, refl, sym, ap, subst, ◌∙◌, inl, inr, arith}
 use Rattle.std.proofs.lemmas.Bool.{and_parts, or_cases, both_ways, cond-true, cond-false, false≢true}
 use Rattle.std.proofs.lemmas.List.{length-map}
 use Rattle.std.proofs.lemmas.Option.{none-some, same_Some}
@@ -18,8 +18,8 @@ use Rattle.wblock_commands.specs.declared.command.Command.TheVariants.{Stored, H
 use Rattle.wblock_commands.specs.declared.command.Deploying.{Deploying}
 use Rattle.wblock_chain.specs.declared.asked.SessionCommand.{SessionCommand}
 use Rattle.wblock_chain.specs.declared.asked.SessionCommand.TheVariants.{Single, Save, Digest, Quit}
-use Rattle.wblock_chain.specs.Plans.{IsLone, IsLoneAsked}
-use Rattle.wblock_chain.specs.Words.{AreBeside, IsAsked, IsOver, IsOwn, IsOverWorld, calls_here, named, single_line, single_options, single_words, takes_calls, with_block, with_calls}
+use Rattle.wblock_chain.specs.Plans.{IsLone, IsLoneAsked, IsLoneLine}
+use Rattle.wblock_chain.specs.Words.{AreBeside, Asks, AsksChain, IsAsked, IsChain, IsFewAsked, IsOver, IsOverAsked, IsOverWorld, IsOwn, calls_here, has_calls, named, named_behind, single_behind, single_line, single_options, single_words, takes_calls}
 
 -- ---- lists
 
@@ -48,31 +48,23 @@ differ v w vs ws no e = both_ways (bytes_eq v w) no ((bytes_eq-Decides v w).1 (h
 
 -- ---- the program's line
 
-both : (b : Bool) (w name : List ℕ) (others : List (List ℕ)) → (if b then w ∷ name ∷ (others ++ name ∷ []) else w ∷ name ∷ others) ≡ w ∷ name ∷ (if b then others ++ name ∷ [] else others)
-both true w name others = refl
-both false w name others = refl
-
 -- WORLD stands behind the first word
-second : (name w : List ℕ) (others : List (List ℕ)) → single_words name (w ∷ others) ≡ w ∷ name ∷ (if bytes_eq w (codes "mine") then others ++ name ∷ [] else others)
-second name w others = both (bytes_eq w (codes "mine")) w name others
-
 pub record IsSecond (name : List ℕ) (words : List (List ℕ)) (command world : List ℕ) (rest : List (List ℕ)) : Type 0 where
   pub others : List (List ℕ)
   pub words_are : words ≡ command ∷ others
   pub world_is : world ≡ name
-  pub rest_is : (if bytes_eq command (codes "mine") then others ++ name ∷ [] else others) ≡ rest
+  pub rest_is : single_behind name command others ≡ rest
 
 world_second : (name : List ℕ) (words : List (List ℕ)) (command world : List ℕ) (rest : List (List ℕ)) → single_words name words ≡ command ∷ world ∷ rest → IsSecond name words command world rest
 world_second name [] command world rest e = absurd cc
 world_second name (w ∷ others) command world rest e =
-    let whole = sym (second name w others) ∙ e in
-    let first : w ≡ command = heads _ _ _ _ whole in
-    let behind = tails _ _ _ _ whole in
+    let first : w ≡ command = heads w command (name ∷ single_behind name w others) (world ∷ rest) e in
+    let behind : name ∷ single_behind name w others ≡ world ∷ rest = tails w command (name ∷ single_behind name w others) (world ∷ rest) e in
     record {
       others = others;
       words_are = ap (λ (v : List ℕ). v ∷ others) first;
-      world_is = sym (heads _ _ _ _ behind);
-      rest_is = subst (λ (v : List ℕ). (if bytes_eq v (codes "mine") then others ++ name ∷ [] else others) ≡ rest) first (tails _ _ _ _ behind);
+      world_is = sym (heads name world (single_behind name w others) rest behind);
+      rest_is = subst (λ (v : List ℕ). single_behind name v others ≡ rest) first (tails name world (single_behind name w others) rest behind);
     }
 
 kept : (b : Bool) (v : List ℕ) (all front back : List (List ℕ)) → all ≡ front ++ back → (if b then v ∷ all else all) ≡ (if b then v ∷ front else front) ++ back
@@ -179,18 +171,6 @@ nothing_own line save digest quit Quit is = quit is.0 is.1
 
 -- ---- calls behind a line that deploys
 
-one_head : (b : Bool) (w : List ℕ) (xs ys : List (List ℕ)) → (if b then w ∷ xs else w ∷ ys) ≡ w ∷ (if b then xs else ys)
-one_head true w xs ys = refl
-one_head false w xs ys = refl
-
-abbrev behind_word : (w : List ℕ) (others : List (List ℕ)) → List (List ℕ)
-behind_word w others = if bytes_eq w (codes "mine") then with_block (with_calls others) else if bytes_eq w (codes "validate") then with_calls others else others
-
-named_head : (w : List ℕ) (others : List (List ℕ)) → named (w ∷ others) ≡ w ∷ behind_word w others
-named_head w others =
-    ap (λ (xs : List (List ℕ)). if bytes_eq w (codes "mine") then w ∷ with_block (with_calls others) else xs) (one_head (bytes_eq w (codes "validate")) w (with_calls others) others)
-    ∙ one_head (bytes_eq w (codes "mine")) w (with_block (with_calls others)) (if bytes_eq w (codes "validate") then with_calls others else others)
-
 abbrev BeginsWith : List ℕ → Line → Type 0
 BeginsWith w line = (words : List (List ℕ)) × (line.words ≡ w ∷ words)
 
@@ -218,8 +198,8 @@ taken_else : (name : List ℕ) (words : List (List ℕ)) (line : Line) (task : D
 taken_else name [] line task takes e asks = false≢true takes
 taken_else name (w ∷ []) line task takes e asks = false≢true takes
 taken_else name (w ∷ v ∷ others) line task takes e asks =
-    let first = (and_parts (bytes_eq w (codes "mine") || bytes_eq w (codes "validate")) (bytes_eq v (codes "-")) takes).0 in
-    begins_else name line task w (behind_word w (v ∷ others)) (or_cases (bytes_eq w (codes "mine")) (bytes_eq w (codes "validate")) first) (subst (λ (ws : List (List ℕ)). split ws ≡ Some line) (named_head w (v ∷ others)) e) asks
+    let first = (and_parts (has_calls w) (bytes_eq v (codes "-")) takes).0 in
+    begins_else name line task w (named_behind w (v ∷ others)) (or_cases (bytes_eq w (codes "mine")) (bytes_eq w (codes "validate")) first) e asks
 
 unless_taken : (name : List ℕ) (words : List (List ℕ)) (line : Line) (task : Deploying) (behind : Option (List ℕ)) → IfSome behind (λ calls. takes_calls words ≡ true) → split (named words) ≡ Some line → AsksDeploy (single_line name line) task → behind ≡ None
 unless_taken name words line task None takes e asks = refl
@@ -239,9 +219,153 @@ is_lone name words line (Call task) behind takes e asks = tt
 is_lone name words line (Debug task) behind takes e asks = tt
 is_lone name words line (Show task) behind takes e asks = tt
 
--- no calls stand behind a line that deploys
-pub is_lone_asked : (name : List ℕ) (words : List (List ℕ)) (line : Line) (c : SessionCommand) (behind : Option (List ℕ)) → IfSome behind (λ calls. takes_calls words ≡ true) → split (named words) ≡ Some line → IsAsked name line c → IsLoneAsked c behind
+is_lone_asked : (name : List ℕ) (words : List (List ℕ)) (line : Line) (c : SessionCommand) (behind : Option (List ℕ)) → IfSome behind (λ calls. takes_calls words ≡ true) → split (named words) ≡ Some line → IsAsked name line c → IsLoneAsked c behind
 is_lone_asked name words line (Single c) behind takes e asks = is_lone name words line c behind takes e asks.0
 is_lone_asked name words line (Save file) behind takes e asks = tt
 is_lone_asked name words line Digest behind takes e asks = tt
 is_lone_asked name words line Quit behind takes e asks = tt
+
+-- no calls stand behind a line that deploys
+pub is_lone_line : (name : List ℕ) (words shown : List (List ℕ)) (behind : Option (List ℕ)) → IfSome behind (λ calls. takes_calls words ≡ true) → shown ≡ named words → IsLoneLine name shown behind
+is_lone_line name words shown behind takes same line c e asks = is_lone_asked name words line c behind takes (ap split (sym same) ∙ e) asks
+
+-- ---- a line asks for one thing
+
+-- the word of a command that a session has
+abbrev is_over_word : List ℕ → Bool
+is_over_word w = bytes_eq w (codes "deploy") || (bytes_eq w (codes "mine") || (bytes_eq w (codes "validate") || bytes_eq w (codes "call")))
+
+abbrev begins_over : List (List ℕ) → Bool
+begins_over [] = false
+begins_over (w ∷ ws) = is_over_word w
+
+over_begins : (line : Line) (d : Command) → IsLineOf line d → IsOverWorld d → begins_over line.words ≡ true
+over_begins line Stored asks over = absurd over
+over_begins line (Help words) asks over = absurd over
+over_begins line Version asks over = absurd over
+over_begins line (Asm text target json) asks over = absurd over
+over_begins line (Text source target unchecked json) asks over = absurd over
+over_begins line (Check target heap json) asks over = absurd over
+over_begins line (Deploy task) asks over = ap begins_over asks.names.words_are
+over_begins line (Mine task) asks over = ap begins_over asks.words
+over_begins line (Validate task) asks over = ap begins_over asks.spells.counts.words
+over_begins line (Call task) asks over = ap begins_over asks.words
+over_begins line (Debug task) asks over = absurd over
+over_begins line (Show task) asks over = absurd over
+
+-- words that begin otherwise are none of theirs
+begins_not : (words shown : List (List ℕ)) → begins_over words ≡ true → words ≡ shown → begins_over shown ≡ false → ⊥
+begins_not words shown begins same no = both_ways (begins_over shown) no (sym (ap begins_over same) ∙ begins)
+
+block_of : (words : List (List ℕ)) (w a b c : List ℕ) (rest : List (List ℕ)) (v x y z : List ℕ) (others : List (List ℕ)) → words ≡ w ∷ a ∷ b ∷ c ∷ rest → words ≡ v ∷ x ∷ y ∷ z ∷ others → c ≡ z
+block_of words w a b c rest v x y z others e f = let same : w ∷ a ∷ b ∷ c ∷ rest ≡ v ∷ x ∷ y ∷ z ∷ others = sym e ∙ f in cc
+
+other_first : (words : List (List ℕ)) (w v : List ℕ) (ws vs : List (List ℕ)) → words ≡ w ∷ ws → words ≡ v ∷ vs → bytes_eq w v ≡ false → ⊥
+other_first words w v ws vs e f no = differ w v ws vs no (sym e ∙ f)
+
+mine_alike : (line : Line) (task : Mining) (d : Command) → AsksMine line task → IsLineOf line d → IsOverWorld d → task.block.now ≢ calls_here
+mine_alike line task Stored is asks over = absurd over
+mine_alike line task (Help words) is asks over = absurd over
+mine_alike line task Version is asks over = absurd over
+mine_alike line task (Asm text target json) is asks over = absurd over
+mine_alike line task (Text source target unchecked json) is asks over = absurd over
+mine_alike line task (Check target heap json) is asks over = absurd over
+mine_alike line task (Deploy other) is asks over = absurd (other_first line.words (codes "mine") (codes "deploy") _ _ is.words asks.names.words_are refl)
+mine_alike line task (Mine other) is asks over = λ here. over (sym (block_of line.words _ _ _ _ _ _ _ _ _ _ is.words asks.words) ∙ here)
+mine_alike line task (Validate other) is asks over = absurd (other_first line.words (codes "mine") (codes "validate") _ _ is.words asks.spells.counts.words refl)
+mine_alike line task (Call other) is asks over = absurd (other_first line.words (codes "mine") (codes "call") _ _ is.words asks.words refl)
+mine_alike line task (Debug other) is asks over = absurd over
+mine_alike line task (Show other) is asks over = absurd over
+
+validate_alike : (line : Line) (task : Validation) (d : Command) → AsksValidate line task → IsLineOf line d → IsOverWorld d → task.block.now ≢ calls_here
+validate_alike line task Stored is asks over = absurd over
+validate_alike line task (Help words) is asks over = absurd over
+validate_alike line task Version is asks over = absurd over
+validate_alike line task (Asm text target json) is asks over = absurd over
+validate_alike line task (Text source target unchecked json) is asks over = absurd over
+validate_alike line task (Check target heap json) is asks over = absurd over
+validate_alike line task (Deploy other) is asks over = absurd (other_first line.words (codes "validate") (codes "deploy") _ _ is.spells.counts.words asks.names.words_are refl)
+validate_alike line task (Mine other) is asks over = absurd (other_first line.words (codes "validate") (codes "mine") _ _ is.spells.counts.words asks.words refl)
+validate_alike line task (Validate other) is asks over = λ here. over (sym (block_of line.words _ _ _ _ _ _ _ _ _ _ is.spells.counts.words asks.spells.counts.words) ∙ here)
+validate_alike line task (Call other) is asks over = absurd (other_first line.words (codes "validate") (codes "call") _ _ is.spells.counts.words asks.words refl)
+validate_alike line task (Debug other) is asks over = absurd over
+validate_alike line task (Show other) is asks over = absurd over
+
+-- where a line asks for a command of a session, that is what the reader of words finds
+over_alike : (line : Line) (c d : Command) → IsLineOf line c → IsLineOf line d → IsOverWorld d → IsOverWorld c
+over_alike line Stored d is asks over = absurd (begins_not line.words [] (over_begins line d asks over) is.words refl)
+over_alike line (Help words) d is asks over = absurd is
+over_alike line Version d is asks over = absurd is
+over_alike line (Asm text target json) d is asks over = absurd (begins_not line.words _ (over_begins line d asks over) is.words refl)
+over_alike line (Text source target unchecked json) d is asks over = absurd (begins_not line.words _ (over_begins line d asks over) is.words refl)
+over_alike line (Check target heap json) d is asks over = absurd (begins_not line.words _ (over_begins line d asks over) is.words refl)
+over_alike line (Deploy task) d is asks over = tt
+over_alike line (Mine task) d is asks over = mine_alike line task d is asks over
+over_alike line (Validate task) d is asks over = validate_alike line task d is asks over
+over_alike line (Call task) d is asks over = tt
+over_alike line (Debug task) d is asks over = absurd (begins_not line.words _ (over_begins line d asks over) is.words.split.words_are refl)
+over_alike line (Show task) d is asks over = absurd (begins_not line.words _ (over_begins line d asks over) is.spells.words refl)
+
+pub own_few : (line : Line) (c : SessionCommand) → IsOwn line c → IsFewAsked c
+own_few line (Single c) is = absurd is
+own_few line (Save file) is = tt
+own_few line Digest is = tt
+own_few line Quit is = tt
+
+pub own_over : (name : List ℕ) (line : Line) (c : SessionCommand) → IsOwn line c → IsOverAsked name c
+own_over name line (Single c) is = absurd is
+own_over name line (Save file) is = tt
+own_over name line Digest is = tt
+own_over name line Quit is = tt
+
+pub own_asked : (name : List ℕ) (line : Line) (c : SessionCommand) → IsOwn line c → IsAsked name line c
+own_asked name line (Single c) is = absurd is
+own_asked name line (Save file) is = is
+own_asked name line Digest is = is
+own_asked name line Quit is = is
+
+-- words that are none of the session's own and whose line is none of a command that it has
+nothing_asked : (name : List ℕ) (line : Line) → ((c : SessionCommand) → IsOwn line c → ⊥) → ((c : Command) → IsLineOf (single_line name line) c → IsOverWorld c → ⊥) → (c : SessionCommand) → IsAsked name line c → ⊥
+nothing_asked name line own single (Single c) asks = single c asks.0 asks.1
+nothing_asked name line own single (Save file) asks = own (Save file) asks
+nothing_asked name line own single Digest asks = own Digest asks
+nothing_asked name line own single Quit asks = own Quit asks
+
+pub no_line : (name : List ℕ) (line single : Line) → single ≡ single_line name line → ((c : SessionCommand) → IsOwn line c → ⊥) → ((c : Command) → IsLineOf single c → ⊥) → (c : SessionCommand) → IsAsked name line c → ⊥
+no_line name line single same own none = nothing_asked name line own (λ c asks over. none c (subst (λ (l : Line). IsLineOf l c) (sym same) asks))
+
+pub other_line : (name : List ℕ) (line single : Line) (c : Command) → single ≡ single_line name line → ((c : SessionCommand) → IsOwn line c → ⊥) → IsLineOf single c → (IsOverWorld c → ⊥) → (d : SessionCommand) → IsAsked name line d → ⊥
+other_line name line single c same own is no = nothing_asked name line own (λ d asks over. no (over_alike single c d is (subst (λ (l : Line). IsLineOf l d) (sym same) asks) over))
+
+-- ---- `quit`
+
+abbrev pub IsOther : SessionCommand → Type 0
+IsOther (Single c) = Unit {0}
+IsOther (Save file) = Unit {0}
+IsOther Digest = Unit {0}
+IsOther Quit = ⊥
+
+-- the word `quit` alone is no line of a command of the session
+quits_none : (name : List ℕ) (line : Line) (d : Command) → line.words ≡ codes "quit" ∷ [] → IsLineOf (single_line name line) d → IsOverWorld d → ⊥
+quits_none name line d quit asks over = begins_not (single_words name line.words) (codes "quit" ∷ name ∷ []) (over_begins (single_line name line) d asks over) (ap (single_words name) quit) refl
+
+other_words : (name : List ℕ) (line : Line) (c : SessionCommand) → IsOther c → IsAsked name line c → line.words ≡ codes "quit" ∷ [] → ⊥
+other_words name line (Single c) other is quit = quits_none name line c quit is.0 is.1
+other_words name line (Save file) other is quit = other_first line.words (codes "quit") (codes "save") [] (file.now ∷ []) quit is.0 refl
+other_words name line Digest other is quit = other_first line.words (codes "quit") (codes "digest") [] [] quit is.0 refl
+other_words name line Quit other is quit = other
+
+-- a line that asks for something else does not ask for `quit`
+pub no_quit : (name text : List ℕ) (c : SessionCommand) → IsOther c → Asks name text c → Asks name text Quit → ⊥
+no_quit name text c other asks quits =
+    let same : asks.line ≡ quits.line = same_Some asks.line quits.line (sym asks.is_split ∙ quits.is_split) in
+    other_words name quits.line c other (subst (λ (l : Line). IsAsked name l c) same asks.asked) quits.asked.0
+
+-- ---- `chain WORLD`
+
+pub no_chain : (words : List (List ℕ)) → None ≡ split words → (world : List ℕ) → AsksChain words world → ⊥
+no_chain words e world asks = none-some asks.line (e ∙ asks.is_split)
+
+pub asks_chain : (words : List (List ℕ)) (line : Line) (found : Option (Bor (List ℕ))) → Some line ≡ split words → MatchOption found ((world : List ℕ) → ¬ IsChain line world) (λ world. IsChain line world.now) → MatchOption found ((world : List ℕ) → ¬ AsksChain words world) (λ world. AsksChain words world.now)
+asks_chain words line None e no = λ world asks. no world (subst (λ (l : Line). IsChain l world) (same_Some asks.line line (sym asks.is_split ∙ sym e)) asks.is)
+asks_chain words line (Some w) e is = record { line = line; is_split = sym e; is = is }

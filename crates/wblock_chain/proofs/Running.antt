@@ -1,5 +1,6 @@
 -- Lines are answered one after another.
-use Rattle.std.proofs.Common.{◌≡◌, ◌≢◌, ℕ, zero, suc, ◌+◌, ◌<◌, ◌≤◌, ◌↔◌, ◌⊎◌, List, [], ◌∷◌, ◌++◌, Bool, true, IsTrue, Result, Ok, Err, OnOk, OnErr, Option, Some, None, IsSome, IfSome, flat_map, length, option_map, string_bytes, take, refl, sym, ap, subst, ◌∙◌, inl, inr, arith, append_assoc, append-nil}
+use Rattle.std.proofs.Common.{◌≡◌, ◌≢◌, ℕ, zero, suc, ◌+◌, ◌<◌, ◌≤◌, ◌↔◌, ◌⊎◌, List, [], ◌∷◌, ◌++◌, Bool, true, false, IsTrue, Result, Ok, Err, OnOk, OnErr, Option, Some, None, IsSome, IfSome, flat_map, length, option_map, string_bytes, take, refl, sym, ap, subst, ◌∙◌, inl, inr, arith, append_assoc, append-nil}
+use Rattle.std.proofs.lemmas.Bool.{both_ways}
 use Rattle.std.proofs.lemmas.List.{flat_map_more, length-append, take-append-le, take_all}
 use Rattle.byte_sinks.specs.Putting.{IsCutShort}
 use Rattle.spec_block.specs.Worlds.{World}
@@ -9,9 +10,8 @@ use Rattle.wblock_line.specs.declared.perform.Status.{Status}
 use Rattle.wblock_chain.specs.Answered.{AnswersRequest, Gets, session_after}
 use Rattle.wblock_chain.specs.Replies.{reply}
 use Rattle.wblock_chain.specs.Requests.{AreShort, IsAskedLine, IsRequest}
-use Rattle.wblock_chain.specs.Sessions.{AreFull, Exchange, HasQuit, IsAnswered, IsRun, IsSessionOver, IsStoppedOver, IsToldInPart, IsUnfinished, Runs, Session, behind, lines_in, reply_in}
-use Rattle.wblock_chain.specs.Words.{Asks, AsksCalls}
-use Rattle.wblock_chain.specs.declared.asked.SessionCommand.TheVariants.{Quit}
+use Rattle.wblock_chain.specs.Sessions.{AreFull, Exchange, HasQuit, IsAnswered, IsRun, IsSessionOver, IsStoppedOver, IsQuit, IsToldInPart, IsUnfinished, Runs, Session, behind, lines_in, reply_in}
+use Rattle.wblock_chain.specs.Words.{AsksCalls}
 use Rattle.wblock_chain.specs.declared.request.Request.{Request}
 use Rattle.wblock_chain.specs.declared.request.Request.TheVariants.{Text, TooLong, NotUtf8}
 use Rattle.wblock_chain.specs.declared.session.Answered.{Answered}
@@ -19,14 +19,20 @@ use Rattle.wblock_chain.specs.declared.session.Answered.{Answered}
 abbrev pub session : Holding → World → Session
 session files w = record { files = files; world = w }
 
+-- none of them was `quit`
+abbrev pub AreOpen : List ℕ → List Exchange → Type 0
+AreOpen name [] = Unit {0}
+AreOpen name (e ∷ es) = (¬ IsQuit name e) × AreOpen name es
+
 -- these exchanges so far, and what they told
 pub record SoFar (name : List ℕ) (world : World) (lines rest : List (List ℕ)) (old new : Holding) (last : World) (before after : List ℕ) : Type 0 where
   pub exchanges : List Exchange
   pub run : IsRun name exchanges lines rest (session old world) (session new last)
+  pub are_open : AreOpen name exchanges
   pub told : after ≡ before ++ flat_map reply_in exchanges
 
 pub begun : (name : List ℕ) (w : World) (lines : List (List ℕ)) (files : Holding) (before : List ℕ) → SoFar name w lines lines files files w before before
-begun name w lines files before = record { exchanges = []; run = record { runs = refl; lines_are = refl }; told = sym (append-nil before) }
+begun name w lines files before = record { exchanges = []; run = record { runs = refl; lines_are = refl }; are_open = tt; told = sym (append-nil before) }
 
 -- ---- one line more
 
@@ -36,7 +42,7 @@ pub record Next (name : List ℕ) (mid rest : List (List ℕ)) (old new : Holdin
   pub answered : IsAnswered name exchange (session old w) (session_after new a)
   pub lines_are : mid ≡ lines_in exchange ++ rest
   pub reply_is : a.reply.items ≡ reply_in exchange
-  pub quits : a.quits ≡ true → Asks name exchange.line Quit
+  pub quits : (a.quits ≡ true) ↔ IsQuit name exchange
 
 taken : (name line : List ℕ) (calls : Option (List (List ℕ))) (mid rest : List (List ℕ)) (old new : Holding) (w : World) (a : Answered) → IsAskedLine line calls mid rest → Gets name line calls old new w a → Next name mid rest old new w a
 taken name line calls mid rest old new w a asked gets =
@@ -53,7 +59,7 @@ taken name line calls mid rest old new w a asked gets =
       };
       lines_are = asked.lines_are ∙ (ap (λ (l : List ℕ). l ∷ (behind calls ++ rest)) (sym gets.line_is) ∙ ap (λ (cs : Option (List (List ℕ))). e.line ∷ (behind cs ++ rest)) (sym gets.calls_are));
       reply_is = gets.reply_is;
-      quits = λ t. subst (λ (l : List ℕ). Asks name l Quit) (sym gets.line_is) (gets.quits t);
+      quits = gets.quits;
     }
 
 pub next : (name : List ℕ) (request : Request) (mid rest : List (List ℕ)) (old new : Holding) (w : World) (a : Answered) → IsRequest mid (Some request) rest → AnswersRequest name request old new w a → Next name mid rest old new w a
@@ -61,27 +67,36 @@ next name (Text line text) mid rest old new w a is answers = taken name (string_
 next name TooLong mid rest old new w a is answers = taken name is.0 is.1 mid rest old new w a is.2 (answers is.0 is.1 is.3)
 next name NotUtf8 mid rest old new w a is answers = taken name is.0 None mid rest old new w a is.1 (answers is.0 is.2)
 
-runs_push : (name : List ℕ) (es : List Exchange) (e : Exchange) (old mid new : Session) → Runs name es old mid → IsAnswered name e mid new → Runs name (es ++ e ∷ []) old new
-runs_push name [] e old mid new runs answered = (new, subst (λ (s : Session). IsAnswered name e s new) runs answered, refl)
-runs_push name (f ∷ es) e old mid new runs answered = (runs.0, runs.1, runs_push name es e runs.0 mid new runs.2 answered)
+runs_push : (name : List ℕ) (es : List Exchange) (e : Exchange) (old mid new : Session) → AreOpen name es → Runs name es old mid → IsAnswered name e mid new → Runs name (es ++ e ∷ []) old new
+runs_push name [] e old mid new are runs answered = (new, subst (λ (s : Session). IsAnswered name e s new) runs answered, λ quits. refl, refl)
+runs_push name (f ∷ es) e old mid new are runs answered = (runs.0, runs.1, λ quits. absurd (are.0 quits), runs_push name es e runs.0 mid new are.1 runs.3 answered)
 
-run_push : (name : List ℕ) (es : List Exchange) (lines mid rest : List (List ℕ)) (start : Session) (old files : Holding) (w : World) (a : Answered) → IsRun name es lines mid start (session old w) → (n : Next name mid rest old files w a) → IsRun name (es ++ n.exchange ∷ []) lines rest start (session_after files a)
-run_push name es lines mid rest start old files w a run n = record {
-  runs = runs_push name es n.exchange start (session old w) (session_after files a) run.runs n.answered;
+run_push : (name : List ℕ) (es : List Exchange) (lines mid rest : List (List ℕ)) (start : Session) (old files : Holding) (w : World) (a : Answered) → AreOpen name es → IsRun name es lines mid start (session old w) → (n : Next name mid rest old files w a) → IsRun name (es ++ n.exchange ∷ []) lines rest start (session_after files a)
+run_push name es lines mid rest start old files w a are run n = record {
+  runs = runs_push name es n.exchange start (session old w) (session_after files a) are run.runs n.answered;
   lines_are =
       run.lines_are
       ∙ (ap (λ (ls : List (List ℕ)). flat_map lines_in es ++ ls) n.lines_are
       ∙ (sym (append_assoc (flat_map lines_in es) (lines_in n.exchange) rest) ∙ ap (λ (ls : List (List ℕ)). ls ++ rest) (flat_map_more lines_in [] es n.exchange)));
 }
 
+open_push : (name : List ℕ) (es : List Exchange) (e : Exchange) → AreOpen name es → (IsQuit name e → ⊥) → AreOpen name (es ++ e ∷ [])
+open_push name [] e are no = (no, tt)
+open_push name (f ∷ es) e are no = (are.0, open_push name es e are.1 no)
+
+-- a session that goes on was not asked to end
+goes_on : (name : List ℕ) (mid rest : List (List ℕ)) (old files : Holding) (w : World) (a : Answered) (n : Next name mid rest old files w a) → a.quits ≡ false → IsQuit name n.exchange → ⊥
+goes_on name mid rest old files w a n no is = both_ways a.quits no (n.quits.1 is)
+
 told_push : (es : List Exchange) (e : Exchange) (before after later bytes : List ℕ) → after ≡ before ++ flat_map reply_in es → bytes ≡ reply_in e → later ≡ after ++ bytes → later ≡ before ++ flat_map reply_in (es ++ e ∷ [])
 told_push es e before after later bytes told is more = more ∙ (ap (λ (b : List ℕ). after ++ b) is ∙ (ap (λ (b : List ℕ). b ++ reply_in e) told ∙ flat_map_more reply_in before es e))
 
 pub one_more : (name : List ℕ) (w last : World) (lines mid rest : List (List ℕ)) (old files new : Holding) (a : Answered) (before after later : List ℕ) → SoFar name w lines mid old files last before after → Next name mid rest files new last a
-    → later ≡ after ++ a.reply.items → SoFar name w lines rest old new (world_view a.world) before later
-one_more name w last lines mid rest old files new a before after later far n more = record {
+    → later ≡ after ++ a.reply.items → a.quits ≡ false → SoFar name w lines rest old new (world_view a.world) before later
+one_more name w last lines mid rest old files new a before after later far n more open = record {
   exchanges = far.exchanges ++ n.exchange ∷ [];
-  run = run_push name far.exchanges lines mid rest (session old w) files new last a far.run n;
+  run = run_push name far.exchanges lines mid rest (session old w) files new last a far.are_open far.run n;
+  are_open = open_push name far.exchanges n.exchange far.are_open (goes_on name mid rest files new last a n open);
   told = told_push far.exchanges n.exchange before after later a.reply.items far.told n.reply_is more;
 }
 
@@ -93,8 +108,8 @@ quit name w last lines mid rest old files new a before after later far n more qu
   last = world_view a.world;
   exchanges = far.exchanges ++ n.exchange ∷ [];
   rest = rest;
-  run = run_push name far.exchanges lines mid rest (session old w) files new last a far.run n;
-  ended = inl (record { front = far.exchanges; last = n.exchange; are = refl; quits = n.quits quits });
+  run = run_push name far.exchanges lines mid rest (session old w) files new last a far.are_open far.run n;
+  ended = inl (record { front = far.exchanges; last = n.exchange; are = refl; quits = n.quits.0 quits });
   told = told_push far.exchanges n.exchange before after later a.reply.items far.told n.reply_is more;
 }
 
@@ -147,7 +162,7 @@ cut_off name w last lines mid rest old files new a s before after later far n sh
   last = world_view a.world;
   exchanges = far.exchanges ++ n.exchange ∷ [];
   rest = rest;
-  run = run_push name far.exchanges lines mid rest (session old w) files new last a far.run n;
+  run = run_push name far.exchanges lines mid rest (session old w) files new last a far.are_open far.run n;
   said = [];
   told = cut far.exchanges n.exchange a.reply.items (reply [] [] s) before after later far.told n.reply_is short;
 }

@@ -1,9 +1,10 @@
 -- What one line gets, as the code has it.
-use Rattle.std.specs.Prelude.{◌≡◌, Bool, ◌≢◌, ℕ, ◌<◌, ◌⊎◌, List, [], ◌∷◌, ◌++◌, false, true, Option, Some, None, IfSome, IsUtf8, length, map, option_map, string_bytes}
+use Rattle.std.specs.Prelude.{◌≡◌, ◌↔◌, Bool, ℕ, ◌<◌, ◌⊎◌, List, [], ◌∷◌, ◌++◌, false, true, Option, Some, None, IfSome, IsUtf8, length, map, option_map, string_bytes}
 use Rattle.std.specs.Borrow.{Bor}
 use Rattle.spec_block.specs.Worlds.{Contract, World}
 use Rattle.spec_block.specs.Bytes.{world_bytes}
 use Rattle.world.specs.Views.{world_view}
+use Rattle.wblock_calls.specs.Texts.{words_of}
 use Rattle.wblock_io.specs.Holding.{Holding, Changes}
 use Rattle.wblock_line.specs.Answers.{EndsLine, Written, Wrote, file_line, sentence_line, write_of}
 use Rattle.wblock_line.specs.declared.transition.Change.{Change}
@@ -14,11 +15,10 @@ use Rattle.wblock_line.specs.declared.perform.Status.{Status}
 use Rattle.wblock_line.specs.declared.perform.Status.TheVariants as status
 use Rattle.wblock_chain.specs.Replies.{block_line, reply, saved_line}
 use Rattle.wblock_chain.specs.Requests.{AreShort}
-use Rattle.wblock_chain.specs.Sessions.{Exchange, Session, DoesLine, FailsLine, IsUsage, reply_in, text_of_calls}
+use Rattle.wblock_chain.specs.Sessions.{Exchange, Session, DoesLine, FailsLine, IsQuit, IsUsage, reply_in, text_of_calls}
 use Rattle.wblock_modules.specs.Deploys.{extended, IsDeployedText}
-use Rattle.wblock_chain.specs.Words.{Asks, told_block}
+use Rattle.wblock_chain.specs.Words.{Asks, named, told_block}
 use Rattle.wblock_chain.specs.declared.asked.SessionCommand.{SessionCommand}
-use Rattle.wblock_chain.specs.declared.asked.SessionCommand.TheVariants.{Quit}
 use Rattle.wblock_chain.specs.declared.request.Request.{Request}
 use Rattle.wblock_chain.specs.declared.request.Request.TheVariants.{Text, TooLong, NotUtf8}
 use Rattle.wblock_chain.specs.declared.session.Answered.{Answered}
@@ -83,7 +83,7 @@ abbrev pub SettlesTransition : Transition → (old new : Holding) → World → 
 SettlesTransition (transition.Done change) old new world a = Settles change old new world a
 SettlesTransition (transition.Refused line why) old new world a = (new ≡ old) × MovesOn world (string_bytes line) (string_bytes why ++ 10 ∷ []) status.Refused a
 
--- the session goes on with a world of the bytes of the one that has these contracts behind its own
+-- the session goes on with a world of the bytes of the one that has these contracts behind its own; of a single command's world, too, its bytes alone are said
 pub record IsExtended (json : Bool) (base : World) (contracts : List Contract) (a : Answered) : Type 0 where
   pub name : Bor (List ℕ)
   pub text : List ℕ
@@ -122,7 +122,7 @@ pub record Gets (name line : List ℕ) (calls : Option (List (List ℕ))) (old n
   pub answer :
       IsUsage name exchange (record { files = old; world = world }) (session_after new a)
       ⊎ (FailsLine name exchange (record { files = old; world = world }) (session_after new a) ⊎ DoesLine name exchange (record { files = old; world = world }) (session_after new a))
-  pub quits : a.quits ≡ true → Asks name line Quit
+  pub quits : (a.quits ≡ true) ↔ IsQuit name exchange
 
 -- whatever line asks for the command, with these calls behind it
 abbrev pub AnswersAsked : (name : List ℕ) → SessionCommand → (behind : Option (List ℕ)) → (old new : Holding) → World → Answered → Type 0
@@ -130,6 +130,10 @@ AnswersAsked name c behind old new world a = (line : List ℕ) (calls : Option (
 
 abbrev pub AnswersText : (name text : List ℕ) → (behind : Option (List ℕ)) → (old new : Holding) → World → Answered → Type 0
 AnswersText name text behind old new world a = (calls : Option (List (List ℕ))) → text_of_calls calls ≡ behind → Gets name text calls old new world a
+
+-- whatever text has these words
+abbrev pub AnswersWords : (name : List ℕ) (words : List (List ℕ)) → (behind : Option (List ℕ)) → (old new : Holding) → World → Answered → Type 0
+AnswersWords name words behind old new world a = (text : List ℕ) → IsUtf8 text → named (words_of text) ≡ words → AnswersText name text behind old new world a
 
 abbrev pub AnswersRequest : (name : List ℕ) → Request → (old new : Holding) → World → Answered → Type 0
 AnswersRequest name (Text line behind) old new world a = AnswersText name (string_bytes line) (option_map (λ text. text.items) behind) old new world a

@@ -1,5 +1,5 @@
 -- What a command over a session's world is to do, before anything is written.
-use Rattle.std.specs.Prelude.{◌≡◌, ℕ, ◌+◌, ◌≤◌, ◌⊎◌, List, [], Option, None, length, vec_len}
+use Rattle.std.specs.Prelude.{◌≡◌, ℕ, ◌+◌, ◌≤◌, ◌⊎◌, List, [], Option, Some, None, length, vec_len}
 use Rattle.wblock_calls.specs.Words.{texts}
 use Rattle.wblock_io.specs.Holding.{Holding}
 use Rattle.wblock_line.specs.Answers.{EndsLine}
@@ -7,6 +7,7 @@ use Rattle.wblock_line.specs.Inputs.{HoldsWorld}
 use Rattle.wblock_line.specs.Transitions.{leaving, note_in}
 use Rattle.wblock_line.specs.declared.transition.Transition.{Transition}
 use Rattle.wblock_line.specs.declared.transition.Transition.TheVariants as transition
+use Rattle.wblock_line.specs.Words.{Line, split}
 use Rattle.wblock_modules.specs.Deploys.{IsReadBehind}
 use Rattle.wblock_modules.specs.declared.deploy.Modules.TheVariants as modules
 use Rattle.spec_block.specs.Worlds.{World}
@@ -16,6 +17,7 @@ use Rattle.wblock_commands.specs.declared.command.Command.TheVariants.{Deploy, M
 use Rattle.wblock_commands.specs.declared.command.Deploying.{Deploying}
 use Rattle.wblock_chain.specs.declared.asked.SessionCommand.{SessionCommand}
 use Rattle.wblock_chain.specs.declared.asked.SessionCommand.TheVariants.{Single, Save, Digest, Quit}
+use Rattle.wblock_chain.specs.Words.{IsAsked}
 use Rattle.wblock_chain.specs.declared.plan.Plan.{Plan}
 use Rattle.wblock_chain.specs.declared.plan.Plan.TheVariants.{Made, Linked}
 
@@ -69,3 +71,7 @@ IsLoneAsked (Single c) behind = IsLone c behind
 IsLoneAsked (Save file) behind = Unit {0}
 IsLoneAsked Digest behind = Unit {0}
 IsLoneAsked Quit behind = Unit {0}
+
+-- and behind no line of these words
+abbrev pub IsLoneLine : (name : List ℕ) (words : List (List ℕ)) (behind : Option (List ℕ)) → Type 0
+IsLoneLine name words behind = (line : Line) (c : SessionCommand) → split words ≡ Some line → IsAsked name line c → IsLoneAsked c behind

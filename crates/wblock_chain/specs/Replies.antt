@@ -11,11 +11,15 @@ number_of status.Usage = 2
 number_of status.File = 3
 number_of status.Memory = 4
 
+-- `# ` at the start of a line
+abbrev pub mark : (start : Bool) → List ℕ
+mark true = 35 ∷ 32 ∷ []
+mark false = []
+
 -- each line of a text behind `# `; this is the start of one or not
 abbrev pub marked : (start : Bool) → List ℕ → List ℕ
 marked start [] = []
-marked true (c ∷ cs) = 35 ∷ 32 ∷ c ∷ marked (c == 10) cs
-marked false (c ∷ cs) = c ∷ marked (c == 10) cs
+marked start (c ∷ cs) = mark start ++ c ∷ marked (c == 10) cs
 
 -- `status N`, which ends each answer
 abbrev pub status_line : Status → List ℕ

@@ -157,10 +157,15 @@ pub record IsAnswered (name : List ℕ) (e : Exchange) (old new : Session) : Typ
 
 -- ---- a session
 
--- lines were answered, one after another
+-- the line was answered as `quit`
+pub record IsQuit (name : List ℕ) (e : Exchange) : Type 0 where
+  pub status_is : e.status ≡ status.Done
+  pub asks : Asks name e.line Quit
+
+-- lines were answered, one after another, and none behind `quit`
 abbrev pub Runs : (name : List ℕ) → List Exchange → (old new : Session) → Type 0
 Runs name [] old new = new ≡ old
-Runs name (e ∷ es) old new = (mid : Session) × IsAnswered name e old mid × Runs name es mid new
+Runs name (e ∷ es) old new = (mid : Session) × IsAnswered name e old mid × (IsQuit name e → es ≡ []) × Runs name es mid new
 
 -- the first lines were answered in these exchanges, and the others are left
 pub record IsRun (name : List ℕ) (es : List Exchange) (lines rest : List (List ℕ)) (old new : Session) : Type 0 where
@@ -177,7 +182,7 @@ pub record HasQuit (name : List ℕ) (es : List Exchange) : Type 0 where
   pub front : List Exchange
   pub last : Exchange
   pub are : es ≡ front ++ last ∷ []
-  pub quits : Asks name last.line Quit
+  pub quits : IsQuit name last
 
 -- the session over this world answered its lines up to `quit` or to their end
 pub record IsSessionOver (name : List ℕ) (world : World) (lines : List (List ℕ)) (old new : Holding) (before after : List ℕ) : Type 0 where

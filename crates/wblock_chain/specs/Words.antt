@@ -11,12 +11,16 @@ use Rattle.wblock_commands.specs.declared.command.Command.TheVariants.{Deploy, M
 use Rattle.wblock_chain.specs.declared.asked.SessionCommand.{SessionCommand}
 use Rattle.wblock_chain.specs.declared.asked.SessionCommand.TheVariants.{Single, Save, Digest, Quit}
 
--- `chain WORLD`
+-- `chain WORLD`, and no options
+pub record IsChain (line : Line) (world : List ℕ) : Type 0 where
+  pub words_are : line.words ≡ codes "chain" ∷ world ∷ []
+  pub options : line.options ≡ []
+
+-- the words are those of such a line
 pub record AsksChain (words : List (List ℕ)) (world : List ℕ) : Type 0 where
   pub line : Line
   pub is_split : split words ≡ Some line
-  pub words_are : line.words ≡ codes "chain" ∷ world ∷ []
-  pub options : line.options ≡ []
+  pub is : IsChain line world
 
 -- ---- `-` as CALLS and BLOCK
 
@@ -31,29 +35,39 @@ told_block = codes "block -"
 abbrev pub named_as : (name word : List ℕ) → List ℕ
 named_as name word = if bytes_eq word (codes "-") then name else word
 
-abbrev pub with_calls : List (List ℕ) → List (List ℕ)
-with_calls [] = []
-with_calls (calls ∷ others) = named_as calls_here calls ∷ others
+-- the words behind `mine`, CALLS and BLOCK by the names of their files
+abbrev pub named_both : List (List ℕ) → List (List ℕ)
+named_both [] = []
+named_both (calls ∷ []) = named_as calls_here calls ∷ []
+named_both (calls ∷ block ∷ others) = named_as calls_here calls ∷ named_as told_block block ∷ others
 
-abbrev pub with_block : List (List ℕ) → List (List ℕ)
-with_block [] = []
-with_block (calls ∷ []) = calls ∷ []
-with_block (calls ∷ block ∷ others) = calls ∷ named_as told_block block ∷ others
+-- the words behind `validate`, CALLS by the name of its file
+abbrev pub named_calls : List (List ℕ) → List (List ℕ)
+named_calls [] = []
+named_calls (calls ∷ others) = named_as calls_here calls ∷ others
+
+-- the words behind the first
+abbrev pub named_behind : (word : List ℕ) → List (List ℕ) → List (List ℕ)
+named_behind word others =
+    if bytes_eq word (codes "mine") then named_both others
+    else if bytes_eq word (codes "validate") then named_calls others
+    else others
 
 -- CALLS `-` right behind `mine` or `validate`, and BLOCK `-` right behind the CALLS of `mine`, by the names of their files
 abbrev pub named : List (List ℕ) → List (List ℕ)
 named [] = []
-named (word ∷ others) =
-    if bytes_eq word (codes "mine") then word ∷ with_block (with_calls others)
-    else if bytes_eq word (codes "validate") then word ∷ with_calls others
-    else word ∷ others
+named (word ∷ others) = word ∷ named_behind word others
 
 -- ---- a session's line as a line of the program
 
--- WORLD stands behind the command's word; of `mine` it is NEXT, too
+-- of `mine` WORLD is NEXT, too
+abbrev pub single_behind : (name word : List ℕ) → List (List ℕ) → List (List ℕ)
+single_behind name word others = if bytes_eq word (codes "mine") then others ++ name ∷ [] else others
+
+-- WORLD stands behind the command's word
 abbrev pub single_words : (name : List ℕ) → List (List ℕ) → List (List ℕ)
 single_words name [] = []
-single_words name (word ∷ others) = if bytes_eq word (codes "mine") then word ∷ name ∷ (others ++ name ∷ []) else word ∷ name ∷ others
+single_words name (word ∷ others) = word ∷ name ∷ single_behind name word others
 
 -- of `validate` it is NEXT, and of `deploy` it is OLD
 abbrev pub single_options : (name : List ℕ) → List (List ℕ) → List Choice → List Choice
@@ -125,11 +139,15 @@ pub record Asks (name text : List ℕ) (c : SessionCommand) : Type 0 where
   pub is_split : split (named (words_of text)) ≡ Some line
   pub asked : IsAsked name line c
 
+-- the word of a command that has CALLS
+abbrev pub has_calls : List ℕ → Bool
+has_calls word = bytes_eq word (codes "mine") || bytes_eq word (codes "validate")
+
 -- the words begin with `mine -` or `validate -`
 abbrev pub takes_calls : List (List ℕ) → Bool
 takes_calls [] = false
 takes_calls (word ∷ []) = false
-takes_calls (word ∷ calls ∷ others) = (bytes_eq word (codes "mine") || bytes_eq word (codes "validate")) && bytes_eq calls (codes "-")
+takes_calls (word ∷ calls ∷ others) = has_calls word && bytes_eq calls (codes "-")
 
 -- the calls stand behind the line, whatever else is wrong with it
 pub record AsksCalls (text : List ℕ) : Type 0 where

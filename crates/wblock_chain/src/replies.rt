@@ -1,7 +1,7 @@
 //! What a session answers to a line, exactly.
 
-ghost use Rattle.std.specs.Prelude.{◌≡◌, ◌++◌, true, IfOk, OnOk, option_map, string_bytes};
-ghost use Rattle.wblock_chain.specs.Replies.{block_line, digest_line, marked, number_of, reply};
+ghost use Rattle.std.specs.Prelude.{◌≡◌, ◌++◌, ◌∷◌, [], true, IfOk, OnOk, option_map, string_bytes};
+ghost use Rattle.wblock_chain.specs.Replies.{block_line, digest_line, mark, marked, number_of, reply};
 
 use std::alloc::{AllocError, Global};
 use wblock_line::Status;
@@ -19,16 +19,26 @@ fn number_of(status: Status) -> u8
     }
 }
 
+/// Puts a byte of a text, behind `# ` where it starts a line.
+fn append_byte(out: &mut Vec<u8>, starts: bool, byte: u8) -> Result<(), AllocError>
+    ensures { OnOk result (out.new.items ≡ out.old.items ++ mark starts ++ byte ∷ []) }
+{
+    if starts {
+        out.extend_from_slice(b"# ")?;
+        out.push(byte)?;
+        return Ok(());
+    }
+    out.push(byte)?;
+    Ok(())
+}
+
 /// Puts each line of a text behind `# `.
 fn append_marked(out: &mut Vec<u8>, said: &str) -> Result<(), AllocError>
     ensures { OnOk result (out.new.items ≡ out.old.items ++ marked true said.now) }
 {
     let mut starts = true;
     for byte in said.as_bytes() {
-        if starts {
-            out.extend_from_slice(b"# ")?;
-        }
-        out.push(*byte)?;
+        append_byte(out, starts, *byte)?;
         starts = *byte == b'\n';
     }
     Ok(())

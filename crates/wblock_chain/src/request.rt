@@ -9,6 +9,7 @@ ghost use Rattle.wblock_chain.specs.Words.{takes_calls};
 
 use crate::asked::takes_calls;
 use std::alloc::{AllocError, Global};
+use wblock_calls::split_words;
 use wblock_io::{LineFault, Lines, NextLine};
 
 /// A line of a session.
@@ -37,7 +38,7 @@ pub(crate) enum CallsRead {
 fn asks_calls(alloc: Global, text: &str) -> Result<bool, AllocError>
     ensures { IfOk result (λ asks. asks ≡ takes_calls (words_of text.now)) }
 {
-    let words: Vec<&str> = text.split(' ').collect(alloc)?;
+    let words = split_words(alloc, text)?;
     Ok(takes_calls(words.as_slice()))
 }
 

@@ -1,21 +1,22 @@
 //! A session: its lines are answered one after another, over a world that it keeps.
 
-ghost use Rattle.std.specs.Prelude.{◌≡◌, ◌≢◌, ◌+◌, ◌≤◌, ◌⊎◌, ◌++◌, ◌↔◌, ℕ, List, [], true, IsTrue, IfOk, IfSome, OnErr, codes, option_map, length, map, string_bytes, vec_len};
+ghost use Rattle.std.specs.Prelude.{◌≡◌, ◌≢◌, ◌+◌, ◌≤◌, ◌⊎◌, ◌++◌, ◌↔◌, ℕ, List, [], true, IsTrue, IsSome, IfOk, IfSome, OnErr, codes, option_map, length, map, string_bytes, vec_len};
 ghost use Rattle.sha2.specs.Sha256.{sha256};
 ghost use Rattle.spec_block.specs.Bytes.{world_bytes};
 ghost use Rattle.world.specs.Views.{contract_view, world_view};
 ghost use Rattle.wblock_line.specs.Answers.{IsSaid, file_line, memory_line, sentence_line, write_of};
 ghost use Rattle.wblock_line.specs.declared.perform.Status.{Status as Shown};
 ghost use Rattle.wblock_commands.specs.Words.{HasFew};
-ghost use Rattle.wblock_chain.specs.Answered.{AnswersAsked, AnswersText, AnswersRequest, AreApart, EndsTold, IsExtended, IsFileReply, IsNotSaved, IsSaved, IsUsageReply, MovesOn, Quits, Settles, SettlesTransition, world_left};
+ghost use Rattle.wblock_chain.specs.Answered.{AnswersAsked, AnswersText, AnswersRequest, AnswersWords, AreApart, EndsTold, IsExtended, IsFileReply, IsNotSaved, IsSaved, IsUsageReply, MovesOn, Quits, Settles, SettlesTransition, world_left};
 ghost use Rattle.wblock_calls.specs.Texts.{words_of};
-ghost use Rattle.wblock_chain.specs.Plans.{FitsOne, IsLone, IsLoneAsked};
+ghost use Rattle.wblock_calls.specs.Words.{texts};
+ghost use Rattle.wblock_chain.specs.Plans.{FitsOne, IsLone, IsLoneAsked, IsLoneLine};
 ghost use Rattle.wblock_chain.specs.Requests.{TakesCalls};
 ghost use Rattle.wblock_chain.specs.Replies.{block_line, digest_line, reply};
 ghost use Rattle.wblock_chain.specs.Sessions.{HasNotBegun, IsSession, IsSessionOver, IsStopped, IsStoppedOver, IsToldInPart, RefusesWorld};
 ghost use Rattle.wblock_chain.specs.Words.{IsFewAsked, IsOver, IsOverAsked, takes_calls};
 
-use crate::asked::{SessionCommand, TOLD_BLOCK, named_words, session_command_of, single_line};
+use crate::asked::{SessionCommand, TOLD_BLOCK, line_words, session_command_of, single_line};
 use crate::plan::{Plan, plan_of};
 use crate::replies::{block_line_of, digest_line_of, reply_of};
 use crate::request::{Request, next_request};
@@ -124,6 +125,19 @@ fn text_with_block(alloc: Global, text: &str, block: &Option<Vec<u8>>) -> Result
     format!(in alloc; "{text}{line}")
 }
 
+/// The answer to what is done: this text, the line of a block that is told, and what is said.
+fn reply_with_block(
+    alloc: Global,
+    text: &str,
+    block: &Option<Vec<u8>>,
+    note: &str,
+) -> Result<Vec<u8>, AllocError>
+    ensures { IfOk result (λ bytes. bytes.items ≡ reply (text.now ++ block_line (option_map (λ bytes. bytes.items) block.now)) note.now Status.Done) }
+{
+    let text = text_with_block(alloc, text, block)?;
+    reply_of(alloc, text.as_str(), note, Status::Done)
+}
+
 /// The world that is left, or else this one.
 fn world_after(next: Option<NextWorld>, world: World) -> World
     ensures { world_view result ≡ world_left next.entry (world_view world) }
@@ -153,8 +167,7 @@ fn settle<'w, F: Files>(
         note,
     } = change;
     let (block, writes) = told_apart(writes);
-    let text = text_with_block(alloc, text.as_str(), &block)?;
-    let reply = reply_of(alloc, text.as_str(), note.as_str(), Status::Done)?;
+    let reply = reply_with_block(alloc, text.as_str(), &block, note.as_str())?;
     if let Err((name, cause)) = write_files(files, writes.as_slice()) {
         return failed(alloc, world, name, cause);
     }
@@ -185,6 +198,23 @@ fn settle_transition<'w, F: Files>(
     }
 }
 
+/// Goes on with the world that a change leaves.
+fn go_on(alloc: Global, change: Change) -> Result<Answered, NoMemory>
+    requires { IsSome change.next }
+    ensures { IfOk result (λ a. IfSome change.entry.next (λ next. MovesOn (world_view next.world) (string_bytes change.entry.text) [] Status.Done a)) }
+{
+    let Change {
+        writes: _writes,
+        next,
+        text,
+        note: _note,
+    } = change;
+    match next {
+        Some(next) => answer_with(alloc, next.world, text.as_str(), "", Status::Done),
+        None => unreachable!(),
+    }
+}
+
 /// Goes on with the world that has these contracts behind its own.
 fn settle_contracts(
     alloc: Global,
@@ -196,17 +226,10 @@ fn settle_contracts(
     requires { length (world_view world).contracts + vec_len contracts ≤ 1024 }
     ensures { IfOk result (IsExtended json (world_view world) (map contract_view contracts.items)) }
 {
-    let Transition::Done(change) = extend(alloc, json, name, Some(name), world, contracts)? else {
-        unreachable!()
-    };
-    let Change {
-        writes: _writes,
-        next,
-        text,
-        note: _note,
-    } = change;
-    let Some(next) = next else { unreachable!() };
-    answer_with(alloc, next.world, text.as_str(), "", Status::Done)
+    match extend(alloc, json, name, Some(name), world, contracts)? {
+        Transition::Done(change) => go_on(alloc, change),
+        Transition::Refused(_line, _why) => unreachable!(),
+    }
 }
 
 /// The answer to a single command.
@@ -314,6 +337,31 @@ fn answer_command<'l, 'w, R: Threads + Wait + Sync, F: Files, P: Pace>(
     }
 }
 
+/// The answer to a line of these words.
+fn answer_words<'a, R: Threads + Wait + Sync, F: Files, P: Pace>(
+    rt: &R,
+    alloc: Global,
+    files: &mut F,
+    name: &'a str,
+    world: World,
+    words: &'a [&'a str],
+    behind: Option<Vec<u8>>,
+    pace: &P,
+) -> Result<Answered, NoMemory>
+    requires { IsLoneLine name.now (texts words.now) (option_map (λ text. text.items) behind) }
+    ensures answer { IfOk result (λ a. IsTrue F.tells → AnswersWords name.entry.now (texts words.entry.now) (option_map (λ text. text.items) behind) (F.holds files.old) (F.holds files.new) (world_view world) a) }
+    ensures kept { OnErr result (IsTrue F.tells → F.holds files.new ≡ F.holds files.old) }
+{
+    let Some(line) = split_words(alloc, words)? else {
+        return refuse_line(alloc, world, usage_of(words));
+    };
+    let single = single_line(alloc, name, &line)?;
+    match session_command_of(alloc, name, &line, &single)? {
+        Some(command) => answer_command(rt, alloc, files, name, world, command, behind, pace),
+        None => refuse_line(alloc, world, usage_of(words)),
+    }
+}
+
 /// The answer to a line that is a text.
 fn answer_text<R: Threads + Wait + Sync, F: Files, P: Pace>(
     rt: &R,
@@ -329,20 +377,8 @@ fn answer_text<R: Threads + Wait + Sync, F: Files, P: Pace>(
     ensures answer { IfOk result (λ a. IsTrue F.tells → AnswersText name.now text.now (option_map (λ text. text.items) behind) (F.holds files.old) (F.holds files.new) (world_view world) a) }
     ensures kept { OnErr result (IsTrue F.tells → F.holds files.new ≡ F.holds files.old) }
 {
-    let words: Vec<&str> = text.split(' ').collect(alloc)?;
-    let usage = match words.first() {
-        Some(word) => usage_of(*word),
-        None => usage_of(""),
-    };
-    let words = named_words(alloc, words.as_slice())?;
-    let Some(line) = split_words(alloc, words.as_slice())? else {
-        return refuse_line(alloc, world, usage);
-    };
-    let single = single_line(alloc, name, &line)?;
-    match session_command_of(alloc, name, &line, &single)? {
-        Some(command) => answer_command(rt, alloc, files, name, world, command, behind, pace),
-        None => refuse_line(alloc, world, usage),
-    }
+    let words = line_words(alloc, text)?;
+    answer_words(rt, alloc, files, name, world, words.as_slice(), behind, pace)
 }
 
 /// The answer to a line with the calls behind it.

@@ -7,8 +7,16 @@ pub(crate) const TOO_LONG: &str =
 /// What is said of a line that is not UTF-8.
 pub(crate) const NOT_UTF8: &str = "usage: the line is not UTF-8";
 
-/// What is said of a line that begins with this word and asks for nothing.
-pub(crate) fn usage_of(word: &str) -> &'static str {
+/// What is said of a line of these words that asks for nothing.
+pub(crate) fn usage_of(words: &[&str]) -> &'static str {
+    match words.first() {
+        Some(word) => usage_behind(*word),
+        None => usage_behind(""),
+    }
+}
+
+/// What is said of a line that begins with this word.
+fn usage_behind(word: &str) -> &'static str {
     match word {
         "mine" => {
             "usage: mine CALLS BLOCK --fuel N [--workers N] [--boosted] [--tries N]; CALLS `-`: calls behind the line, up to an empty line; BLOCK `-`: its bytes are told"
