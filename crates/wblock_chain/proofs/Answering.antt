@@ -1,7 +1,8 @@
 -- What a line gets.
-use Rattle.std.proofs.Common.{◌≡◌, ◌≢◌, ◌↔◌, ℕ, ◌<◌, ◌≤◌, ◌⊎◌, List, [], ◌∷◌, ◌++◌, Bool, true, false, Option, Some, None, IsSome, is_some, IfSome, Bor, String, Vec, Global, codes, length, map, option_map, string_bytes, vec_len, refl, sym, ap, ap₂, subst, ◌∙◌, inl, inr, arith, append_assoc, append-nil}
+use Rattle.std.proofs.Common.{◌≡◌, ◌≢◌, ◌↔◌, ℕ, ◌<◌, ◌≤◌, ◌⊎◌, List, [], ◌∷◌, ◌++◌, ◌==◌, Bool, true, false, Option, Some, None, IsSome, is_some, IfSome, Bor, String, Vec, Global, Result, Ok, Err, OnErr, codes, length, map, option_map, string_bytes, vec_len, refl, sym, ap, ap₂, subst, ◌∙◌, inl, inr, arith, append_assoc, append-nil}
 use Rattle.std.proofs.lemmas.Bool.{both_ways, false≢true}
-use Rattle.std.proofs.lemmas.List.{length-map, length_push, same_from_push}
+use Rattle.std.proofs.lemmas.List.{length-map, map-append, same_from_push}
+use Rattle.std.proofs.lemmas.Option.{none-some, same_Some}
 use Rattle.sha2.specs.Sha256.{sha256}
 use Rattle.link.specs.declared.deployed.Deployed.{Deployed}
 use Rattle.spec_block.specs.Worlds.{Contract, World}
@@ -12,7 +13,9 @@ use Rattle.wblock_calls.specs.Words.{texts}
 use Rattle.wblock_io.specs.Holding.{Holding, Changes}
 use Rattle.wblock_line.specs.Answers.{EndsLine, Upshot, Written, Wrote, WroteSome, file_line, sentence_line, write_of}
 use Rattle.wblock_line.specs.Inputs.{HoldsWorld}
+use Rattle.wblock_line.specs.Words.{Line, split}
 use Rattle.wblock_line.specs.Transitions.{WritesBeside, leaving, next_write}
+use Rattle.wblock_line.specs.declared.answer.Write.{Write}
 use Rattle.wblock_line.specs.declared.perform.Status.{Status}
 use Rattle.wblock_line.specs.declared.perform.Status.TheVariants as status
 use Rattle.wblock_line.specs.declared.transition.Change.{Change}
@@ -32,12 +35,12 @@ use Rattle.wblock_commands.specs.Does.{ComesTo, Reads}
 use Rattle.wblock_commands.specs.declared.command.Command.{Command}
 use Rattle.wblock_commands.specs.declared.command.Command.TheVariants.{Stored, Help, Version, Asm, Text, Check, Deploy, Mine, Validate, Call, Debug, Show}
 use Rattle.wblock_commands.specs.declared.command.Deploying.{Deploying}
-use Rattle.wblock_chain.specs.Answered.{AnswersAsked, AreApart, EndsTold, Gets, IsCarriedOut, IsExtended, IsFileReply, IsNotSaved, IsSaved, IsUndone, IsUsageReply, MovesOn, Quits, Settles, SettlesTransition, session_after, world_left}
+use Rattle.wblock_chain.specs.Answered.{AnswersAsked, AnswersLine, AnswersWords, AreApart, Gets, IsCarriedOut, IsExtended, IsFileReply, IsNotSaved, IsSaved, IsTold, IsUndone, IsUsageReply, MovesOn, Quits, Settles, SettlesTransition, session_after, world_left}
 use Rattle.wblock_chain.specs.Plans.{FitsBeside, IsNoted, IsPlan, most_beside}
 use Rattle.wblock_chain.specs.Replies.{block_line, digest_line, saved_line}
 use Rattle.wblock_chain.specs.Requests.{AreShort}
 use Rattle.wblock_chain.specs.Sessions.{Exchange, IsKeptName, IsQuit, Session, TellsBlock, Uses, standing, text_of_calls}
-use Rattle.wblock_chain.specs.Words.{Asks, IsOver, calls_here, told_block}
+use Rattle.wblock_chain.specs.Words.{Asks, IsAsked, IsOver, calls_here, named, told_block}
 use Rattle.wblock_chain.specs.declared.asked.SessionCommand.{SessionCommand}
 use Rattle.wblock_chain.specs.declared.asked.SessionCommand.TheVariants.{Single, Save, Digest, Quit}
 use Rattle.wblock_chain.specs.declared.plan.Plan.TheVariants.{Made, Linked}
@@ -51,6 +54,11 @@ use Rattle.wblock_chain.proofs.Standing.{kept, next_world, told, written}
 pub file_said : (file why : List ℕ) → EndsLine (file_line file ++ sentence_line why)
 file_said file [] = (codes "file " ++ file, append-nil (file_line file))
 file_said file (c ∷ cs) = (file_line file ++ (c ∷ cs), sym (append_assoc (file_line file) (c ∷ cs) (10 ∷ [])))
+
+-- a sentence that is not empty has a line of its own
+pub sentence_is : (b : Bool) (why : List ℕ) → b ≡ (length why == 0) → b ≡ false → sentence_line why ≡ why ++ 10 ∷ []
+sentence_is b [] is e = let no : (0 == 0) ≡ false = sym is ∙ e in absurd cc
+sentence_is b (c ∷ cs) is e = refl
 
 abbrev session : Holding → World → Session
 session files w = record { files = files; world = w }
@@ -114,12 +122,21 @@ fails name line calls c old new w file a asks same uses reply =
       quits = stays name e w [] said status.File a reply.moves (not_done name e status.File refl file_not_done);
     }
 
--- the last of the writes is the one that is told
-pub apart_told : (all files : List Written) (last : Written) → all ≡ files ++ last ∷ [] → EndsTold all → AreApart all (Some last.1) files
-apart_told all files last e ends =
-    let same = (same_from_push files ends.front last (told_block, ends.bytes) (sym e ∙ ends.are)).1 in
-    let name : last.0 ≡ told_block = ap (λ (v : Written). v.0) same in
-    e ∙ ap (λ (n : List ℕ). files ++ (n, last.1) ∷ []) name
+-- the one write is the one that is told
+pub apart_told : (all rest : List Write) (last : Write) → all ≡ rest ++ last ∷ [] → IsTold (map write_of all) → AreApart (map write_of all) (Some last.bytes.items) (map write_of rest)
+apart_told all rest last e told =
+    let pushed : map write_of all ≡ map write_of rest ++ write_of last ∷ [] = ap (map write_of) e ∙ map-append write_of rest (last ∷ []) in
+    let same = same_from_push (map write_of rest) [] (write_of last) (told_block, told.bytes) (sym pushed ∙ told.are) in
+    let bytes : last.bytes.items ≡ told.bytes = ap (λ (v : Written). v.1) same.1 in
+    (told.are ∙ ap (λ (b : List ℕ). (told_block, b) ∷ []) (sym bytes), same.0)
+
+-- where there is no write, none is told
+pub none_told : (writes : Vec Write Global) → vec_len writes ≡ 0 → IsTold (map write_of writes.items) → ⊥
+none_told writes none told =
+    let size = writes.ok.0 in
+    let count = length-map writes.items write_of in
+    let one = ap (λ (ws : List Written). length ws) told.are in
+    omega (arith, size, count, one, none)
 
 -- ---- how the writes of a command stand: the block of `mine`, if any, and the world behind it
 
@@ -140,10 +157,6 @@ first v w vs ws e = cc
 
 others : (v w : Written) (vs ws : List Written) → v ∷ vs ≡ w ∷ ws → vs ≡ ws
 others v w vs ws e = cc
-
-no_push : (xs : List Written) (x : Written) → [] ≡ xs ++ x ∷ [] → ⊥
-no_push [] x e = absurd cc
-no_push (y ∷ xs) x e = absurd cc
 
 one_left : (name file bytes : List ℕ) (next : Option NextWorld) → next_write next ≡ (file, bytes) ∷ [] → file ≡ name → IfSome next (λ n. n.name.now ≡ name)
 one_left name file bytes None e same = tt
@@ -266,7 +279,7 @@ no_files name c calls old new w next left same = record {
 
 no_block : (name : List ℕ) (c : Command) (calls : Option (List ℕ)) (old new : Holding) (w : World) (next : Option NextWorld) (block : Option (List ℕ)) (files : List Written) → IfSome next (λ n. n.name.now ≡ name) → AreApart [] block files → Wrote files old new
     → WritesOver name c calls old new w (world_left next w) (next_write next) block
-no_block name c calls old new w next (Some b) files left apart wrote = absurd (no_push files (told_block, b) apart)
+no_block name c calls old new w next (Some b) files left apart wrote = let no = apart.0 in absurd cc
 no_block name c calls old new w next None files left apart wrote = no_files name c calls old new w next left (subst (λ (ws : List Written). Wrote ws old new) (sym apart.0) wrote)
 
 told_over : (name : List ℕ) (c : Command) (calls : Option (List ℕ)) (old new : Holding) (w : World) (next : Option NextWorld) (file bytes : List ℕ) → IfSome next (λ n. n.name.now ≡ name) → file ≢ name → file ≡ told_block → TellsBlock c → new ≡ old
@@ -294,14 +307,14 @@ one_written old new file bytes wrote = subst (λ (h : Holding). Changes old h fi
 
 one_block : (name : List ℕ) (c : Command) (calls : Option (List ℕ)) (old new : Holding) (w : World) (next : Option NextWorld) (block : Option (List ℕ)) (files : List Written) (file bytes : List ℕ) → IfSome next (λ n. n.name.now ≡ name)
     → file ≢ name → file ≢ calls_here → (file ≡ told_block → TellsBlock c) → AreApart ((file, bytes) ∷ []) block files → Wrote files old new → WritesOver name c calls old new w (world_left next w) ((file, bytes) ∷ next_write next) block
-one_block name c calls old new w next (Some b) [] file bytes left no_world no_calls tells apart wrote =
-    let same = first _ _ _ _ apart in
+one_block name c calls old new w next (Some b) files file bytes left no_world no_calls tells apart wrote =
+    let same = first _ _ _ _ apart.0 in
     let is : file ≡ told_block = ap (λ (v : Written). v.0) same in
-    subst (λ (x : List ℕ). WritesOver name c calls old new w (world_left next w) ((file, bytes) ∷ next_write next) (Some x)) (ap (λ (v : Written). v.1) same) (told_over name c calls old new w next file bytes left no_world is (tells is) wrote)
-one_block name c calls old new w next (Some b) (v ∷ vs) file bytes left no_world no_calls tells apart wrote = absurd (no_push vs (told_block, b) (others _ _ _ _ apart))
+    subst (λ (x : List ℕ). WritesOver name c calls old new w (world_left next w) ((file, bytes) ∷ next_write next) (Some x)) (ap (λ (v : Written). v.1) same)
+    (told_over name c calls old new w next file bytes left no_world is (tells is) (subst (λ (ws : List Written). Wrote ws old new) apart.1 wrote))
 one_block name c calls old new w next None files file bytes left no_world no_calls tells apart wrote =
     let changes = one_written old new file bytes (subst (λ (ws : List Written). Wrote ws old new) (sym apart.0) wrote) in
-    written_over name c calls old new w next file bytes left no_world no_calls (λ e. apart.1 (record { front = []; bytes = bytes; are = ap (λ (f : List ℕ). (f, bytes) ∷ []) e })) changes
+    written_over name c calls old new w next file bytes left no_world no_calls (λ e. apart.1 (record { bytes = bytes; are = ap (λ (f : List ℕ). (f, bytes) ∷ []) e })) changes
 
 over_beside : (name : List ℕ) (c : Command) (calls : Option (List ℕ)) (old new : Holding) (w : World) (next : Option NextWorld) (writes : List Written) (block : Option (List ℕ)) (files : List Written) → IfSome next (λ n. n.name.now ≡ name) → (writes ≡ []) ⊎ IsBlock name c writes
     → AreApart writes block files → Wrote files old new → WritesOver name c calls old new w (world_left next w) (writes ++ next_write next) block
@@ -511,19 +524,12 @@ is_first name (v ∷ w ∷ vs) old new few some = absurd (omega (arith, few))
 
 -- a block that is told leaves no file to be written
 few_files : (writes : List Written) (block : Option (List ℕ)) (files : List Written) → length writes ≤ 1 → AreApart writes block files → length files ≤ 1
-few_files writes (Some b) files few apart =
-    let count = length_push files (told_block, b) in
-    let same = ap (λ (ws : List Written). length ws) apart in
-    omega (arith, few, count, same)
+few_files writes (Some b) files few apart = let none = ap (λ (ws : List Written). length ws) apart.1 in omega (arith, none)
 few_files writes None files few apart = let same = ap (λ (ws : List Written). length ws) apart.0 in omega (arith, few, same)
 
-are_files : (writes : List Written) (block : Option (List ℕ)) (files : List Written) (name bytes : List ℕ) → length writes ≤ 1 → AreApart writes block files → files ≡ (name, bytes) ∷ [] → writes ≡ (name, bytes) ∷ []
-are_files writes (Some b) files name bytes few apart is =
-    let count = length_push files (told_block, b) in
-    let same = ap (λ (ws : List Written). length ws) apart in
-    let one = ap (λ (ws : List Written). length ws) is in
-    absurd (omega (arith, few, count, same, one))
-are_files writes None files name bytes few apart is = apart.0 ∙ is
+are_files : (writes : List Written) (block : Option (List ℕ)) (files : List Written) (name bytes : List ℕ) → AreApart writes block files → files ≡ (name, bytes) ∷ [] → writes ≡ (name, bytes) ∷ []
+are_files writes (Some b) files name bytes apart is = let none : [] ≡ (name, bytes) ∷ [] = sym apart.1 ∙ is in absurd cc
+are_files writes None files name bytes apart is = apart.0 ∙ is
 
 pub nothing_written : (change : Change) (block : Option (List ℕ)) (files : List Written) (name : List ℕ) (old new : Holding) → vec_len change.writes ≤ 1 → AreApart (map write_of change.writes.items) block files → WroteSome name files old new → new ≡ old
 nothing_written change block files name old new few apart some = only_first name files old new (few_files (map write_of change.writes.items) block files (few_writes change 1 few) apart) some
@@ -537,7 +543,7 @@ undone change block files name old new w a few apart some reply =
       file = name;
       bytes = first.0;
       others = [];
-      writes = are_files all block files name first.0 most apart first.1;
+      writes = are_files all block files name first.0 apart first.1;
       same = nothing_written change block files name old new few apart some;
       reply = reply;
     }
@@ -627,3 +633,25 @@ answers_quit name behind old new w a files is line calls same asks = record {
   }));
   quits = (λ ends. record { status_is = refl; asks = asks }, λ quits. is.ends);
 }
+
+-- ---- what answers each text of a line
+
+-- the line asks for nothing
+pub line_refused : (name : List ℕ) (l : Line) (behind : Option (List ℕ)) (files : Holding) (w : World) (a : Answered) → IsUsageReply w a → ((c : SessionCommand) → ¬ IsAsked name l c) → AnswersLine name l behind files files w a
+line_refused name l behind files w a reply none text utf8 is calls same =
+    asks_nothing name text calls files files w a refl reply (inr (λ c asks. none c (subst (λ (m : Line). IsAsked name m c) (same_Some asks.line l (sym asks.is_split ∙ is)) asks.asked)))
+
+pub line_answered : (name : List ℕ) (l : Line) (c : SessionCommand) (behind : Option (List ℕ)) (old new : Holding) (w : World) (a : Answered) → IsAsked name l c → AnswersAsked name c behind old new w a → AnswersLine name l behind old new w a
+line_answered name l c behind old new w a asks answers text utf8 is calls same = answers text calls same (record { utf8 = utf8; line = l; is_split = is; asked = asks })
+
+pub words_refused : (name : List ℕ) (words : List (List ℕ)) (behind : Option (List ℕ)) (files : Holding) (w : World) (a : Answered) → IsUsageReply w a → None ≡ split words → AnswersWords name words behind files files w a
+words_refused name words behind files w a reply none text utf8 are calls same =
+    asks_nothing name text calls files files w a refl reply (inr (λ c asks. none-some asks.line (none ∙ (sym (ap split are) ∙ asks.is_split))))
+
+pub words_answered : (name : List ℕ) (words : List (List ℕ)) (l : Line) (behind : Option (List ℕ)) (old new : Holding) (w : World) (a : Answered) → Some l ≡ split words → AnswersLine name l behind old new w a → AnswersWords name words behind old new w a
+words_answered name words l behind old new w a is answers text utf8 are = answers text utf8 (ap split are ∙ sym is)
+
+-- what is so is so where a call is refused
+pub on_err : {T E : Type 0} (r : Result T E) (P : Type 0) → P → OnErr r P
+on_err (Ok x) P p = tt
+on_err (Err e) P p = p

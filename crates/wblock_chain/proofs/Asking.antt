@@ -18,7 +18,7 @@ use Rattle.wblock_commands.specs.declared.command.Command.TheVariants.{Stored, H
 use Rattle.wblock_commands.specs.declared.command.Deploying.{Deploying}
 use Rattle.wblock_chain.specs.declared.asked.SessionCommand.{SessionCommand}
 use Rattle.wblock_chain.specs.declared.asked.SessionCommand.TheVariants.{Single, Save, Digest, Quit}
-use Rattle.wblock_chain.specs.Plans.{IsLone, IsLoneAsked, IsLoneLine}
+use Rattle.wblock_chain.specs.Plans.{AreLoneWords, IsLone, IsLoneAsked}
 use Rattle.wblock_chain.specs.Words.{AreBeside, Asks, AsksChain, IsAsked, IsChain, IsFewAsked, IsOver, IsOverAsked, IsOverWorld, IsOwn, calls_here, has_calls, named, named_behind, single_behind, single_line, single_options, single_words, takes_calls}
 
 -- ---- lists
@@ -226,8 +226,8 @@ is_lone_asked name words line Digest behind takes e asks = tt
 is_lone_asked name words line Quit behind takes e asks = tt
 
 -- no calls stand behind a line that deploys
-pub is_lone_line : (name : List ℕ) (words shown : List (List ℕ)) (behind : Option (List ℕ)) → IfSome behind (λ calls. takes_calls words ≡ true) → shown ≡ named words → IsLoneLine name shown behind
-is_lone_line name words shown behind takes same line c e asks = is_lone_asked name words line c behind takes (ap split (sym same) ∙ e) asks
+pub are_lone_words : (name : List ℕ) (words shown : List (List ℕ)) (behind : Option (List ℕ)) → IfSome behind (λ calls. takes_calls words ≡ true) → shown ≡ named words → AreLoneWords name shown behind
+are_lone_words name words shown behind takes same line e c asks = is_lone_asked name words line c behind takes (ap split (sym same) ∙ e) asks
 
 -- ---- a line asks for one thing
 

@@ -1,5 +1,5 @@
 -- What a command comes to over the files that stand.
-use Rattle.std.proofs.Common.{◌≡◌, ◌≢◌, ℕ, zero, suc, ◌+◌, ◌≤◌, ◌⊎◌, List, [], ◌∷◌, ◌++◌, Bool, Option, Some, None, Bor, String, Vec, Global, length, map, take, slice_get, string_bytes, vec_len, refl, sym, ap, subst, ◌∙◌, inl, inr, arith}
+use Rattle.std.proofs.Common.{◌≡◌, ◌≢◌, ℕ, zero, suc, ◌+◌, ◌≤◌, ◌⊎◌, List, [], ◌∷◌, ◌++◌, Bool, Option, Some, None, Bor, String, Vec, Global, length, map, take, slice_get, string_bytes, vec_len, refl, sym, ap, subst, ◌∙◌, inl, inr, arith, append-nil}
 use Rattle.std.proofs.lemmas.List.{length-map}
 use Rattle.std.proofs.lemmas.Option.{none-some, same_Some}
 use Rattle.link.specs.declared.deployed.Deployed.{Deployed}
@@ -9,9 +9,13 @@ use Rattle.world.specs.Views.{contract_view}
 use Rattle.wblock_calls.specs.Texts.{SpellsCalls}
 use Rattle.wblock_calls.specs.Words.{texts}
 use Rattle.wblock_io.specs.Holding.{Holding}
-use Rattle.wblock_line.specs.Answers.{EndsLine, Upshot}
+use Rattle.wblock_line.specs.Answers.{Upshot, Written, upshot_of, write_of, writes_of}
+use Rattle.wblock_line.specs.declared.answer.Answer.{Answer}
+use Rattle.wblock_line.specs.declared.answer.Answer.TheVariants as answer
+use Rattle.wblock_line.specs.declared.answer.Write.{Write}
+use Rattle.wblock_line.specs.declared.perform.Status.TheVariants as status
 use Rattle.wblock_line.specs.Inputs.{HoldsCalls, HoldsWorld, IsNextInput, TellsNoCalls}
-use Rattle.wblock_line.specs.Transitions.{leaving, note_in, WritesBeside}
+use Rattle.wblock_line.specs.Transitions.{leaving, WritesBeside}
 use Rattle.wblock_line.specs.Upshots.{IsRefusalWith}
 use Rattle.wblock_line.specs.declared.transition.Transition.{Transition}
 use Rattle.wblock_line.specs.declared.transition.Transition.TheVariants as transition
@@ -27,7 +31,7 @@ use Rattle.wblock_commands.specs.Deploying.{IsFree}
 use Rattle.wblock_commands.specs.Does.{ComesTo, Reads}
 use Rattle.wblock_commands.specs.Words.{IsApart}
 use Rattle.wblock_commands.specs.declared.command.Command.{Command}
-use Rattle.wblock_commands.specs.declared.command.Command.TheVariants.{Deploy, Mine, Validate, Call}
+use Rattle.wblock_commands.specs.declared.command.Command.TheVariants.{Stored, Help, Version, Asm, Text, Check, Deploy, Mine, Validate, Call, Debug, Show}
 use Rattle.wblock_commands.specs.declared.command.Deploying.{Deploying}
 use Rattle.wblock_chain.specs.declared.plan.Plan.{Plan}
 use Rattle.wblock_chain.specs.declared.plan.Plan.TheVariants.{Made, Linked}
@@ -35,6 +39,22 @@ use Rattle.wblock_chain.specs.Plans.{FitsBeside, FitsOne, IsPlan, IsPlanned, mos
 use Rattle.wblock_chain.specs.Sessions.{standing}
 use Rattle.wblock_chain.specs.Words.{IsOver}
 use Rattle.wblock_chain.proofs.Standing.{at_lone, at_other, at_world, held_world}
+
+-- ---- an answer that leaves no world
+
+abbrev done_with : List ℕ → List Written → Upshot
+done_with text writes = record { status = status.Done; writes = writes; text = text; why = [] }
+
+pub without_world : (a : Answer) (writes : Vec Write Global) (text note : String Global) → a ≡ answer.Done writes text → leaving (transition.Done (record { writes = writes; next = None; text = text; note = note })) ≡ upshot_of a
+without_world a writes text note is = ap (done_with (string_bytes text)) (append-nil (map write_of writes.items)) ∙ sym (ap upshot_of is)
+
+pub none_beside : (a : Answer) (writes : Vec Write Global) (text : String Global) → a ≡ answer.Done writes text → writes_of a ≡ [] → vec_len writes ≡ 0
+none_beside a writes text is none =
+    let mapped : map write_of writes.items ≡ [] = sym (ap writes_of is) ∙ none in
+    let size = writes.ok.0 in
+    let count = length-map writes.items write_of in
+    let zeros = ap (λ (ws : List Written). length ws) mapped in
+    omega (arith, size, count, zeros)
 
 -- ---- mine and validate
 
@@ -218,3 +238,18 @@ one_most c = omega arith
 pub fits_one : (c : Command) (t : Transition) → FitsBeside c (Made t) → FitsOne t
 fits_one c (transition.Done change) few = let most = one_most c in omega (arith, few, most)
 fits_one c (transition.Refused line why) few = tt
+
+-- a session has no other command
+pub none_other : (name : List ℕ) (c : Command) → IsOver name c → ((task : Mining) → c ≡ Mine task → ⊥) → ((task : Validation) → c ≡ Validate task → ⊥) → ((task : Calling) → c ≡ Call task → ⊥) → ((task : Deploying) → c ≡ Deploy task → ⊥) → ⊥
+none_other name (Mine task) over mine validate call deploy = mine task refl
+none_other name (Validate task) over mine validate call deploy = validate task refl
+none_other name (Call task) over mine validate call deploy = call task refl
+none_other name (Deploy task) over mine validate call deploy = deploy task refl
+none_other name Stored over mine validate call deploy = over
+none_other name (Help words) over mine validate call deploy = over
+none_other name Version over mine validate call deploy = over
+none_other name (Asm text target json) over mine validate call deploy = over
+none_other name (Text source target unchecked json) over mine validate call deploy = over
+none_other name (Check target heap json) over mine validate call deploy = over
+none_other name (Debug task) over mine validate call deploy = over
+none_other name (Show task) over mine validate call deploy = over

@@ -1,14 +1,16 @@
 -- Lines are read one after another.
-use Rattle.std.proofs.Common.{◌≡◌, ◌≢◌, ℕ, ◌<◌, ◌≤◌, ◌↔◌, List, [], ◌∷◌, ◌++◌, Bool, true, false, Option, Some, None, IsSome, IfSome, IsUtf8, All, Vec, length, option_map, string_bytes, String, refl, sym, ap, subst, ◌∙◌, inl, inr, arith, append_assoc, append-nil, if◌then◌else◌}
+use Rattle.std.proofs.Common.{◌≡◌, ◌≢◌, ℕ, ◌<◌, ◌≤◌, ◌↔◌, List, [], ◌∷◌, ◌++◌, ◌==◌, Bool, true, false, Option, Some, None, IsSome, IfSome, IsUtf8, All, Vec, vec_len, length, option_map, string_bytes, String, refl, sym, ap, subst, ◌∙◌, inl, inr, arith, append_assoc, append-nil, if◌then◌else◌}
 use Rattle.std.proofs.Common.{flat_map, Global}
-use Rattle.std.proofs.lemmas.Bool.{false≢true}
-use Rattle.std.proofs.lemmas.List.{drop_at, flat_map_more, take_at}
+use Rattle.std.proofs.lemmas.Bool.{both_ways, eqb-true, false≢true}
+use Rattle.std.proofs.lemmas.List.{drop_at, flat_map_more, nil_from_length, take_at}
+use Rattle.std.proofs.lemmas.Str.{IsUtf8-string_bytes}
 use Rattle.std.proofs.lemmas.List.Elements.{All-drop, All-head, All-nil, All-push, All-take}
 use Rattle.wblock_chain.specs.declared.request.CallsRead.TheVariants as read
 use Rattle.wblock_chain.specs.declared.request.Request.TheVariants.{Text, TooLong, NotUtf8}
 use Rattle.wblock_chain.specs.Requests.{AreShort, IsAskedLine, IsCallsRead, IsRequest}
 use Rattle.wblock_chain.specs.Sessions.{AreFull, IsUnfinished}
-use Rattle.wblock_chain.specs.Words.{AsksCalls}
+use Rattle.wblock_chain.specs.Words.{AsksCalls, takes_calls}
+use Rattle.wblock_calls.specs.Texts.{words_of}
 
 -- ---- calls
 
@@ -71,6 +73,25 @@ pub line_read : (fits : Bool) (text more line : List ℕ) (old mid new : List (L
 line_read true text more line old mid new are m some short is = subst (λ (t : List ℕ). AreRead true t old new) (sym is) (one_read text line old mid new are m some short)
 line_read false text more line old mid new are m some short is = subst (λ (t : List ℕ). AreRead false t old new) (sym is) (one_passed text line old mid new are m some)
 
+pub kept_line : (fits : Bool) (text more lent : List ℕ) (line : Vec ℕ Global) (old mid new : List (List ℕ)) → AreRead fits text old mid → mid ≡ line.items ∷ new → line.items ≢ [] → length line.items ≤ 1048576 → lent ≡ line.items
+    → more ≡ (if fits then text ++ lent ++ 10 ∷ [] else text) → AreRead fits more old new
+kept_line fits text more lent line old mid new are m some short same is =
+    line_read fits text more line.items old mid new are m some short (subst (λ (b : List ℕ). more ≡ (if fits then text ++ b ++ 10 ∷ [] else text)) same is)
+
+-- a line is empty or not
+pub was_empty : (b : Bool) (line : Vec ℕ Global) → b ≡ (vec_len line == 0) → b ≡ true → line.items ≡ []
+was_empty b line is e =
+    let size = line.ok.0 in
+    let none = eqb-true (vec_len line) 0 (sym is ∙ e) in
+    nil_from_length line.items (omega (arith, size, none))
+
+pub not_empty : (b : Bool) (line : Vec ℕ Global) → b ≡ (vec_len line == 0) → b ≡ false → line.items ≢ []
+not_empty b line is e none =
+    let size = line.ok.0 in
+    let count = ap (λ (bytes : List ℕ). length bytes) none in
+    let zeros : vec_len line ≡ 0 = omega (arith, size, count) in
+    let no : (0 == 0) ≡ false = subst (λ (n : ℕ). (n == 0) ≡ false) zeros (sym is ∙ e) in cc
+
 -- an empty line ends the calls
 ended_at : (calls : List (List ℕ)) (line : List ℕ) (old mid new : List (List ℕ)) → old ≡ calls ++ mid → mid ≡ line ∷ new → line ≡ [] → old ≡ calls ++ [] ∷ new
 ended_at calls line old mid new e m none = e ∙ ap (λ (ls : List (List ℕ)). calls ++ ls) (m ∙ ap (λ (l : List ℕ). l ∷ new) none)
@@ -115,3 +136,33 @@ read_too_long line old mid new e asks is = (line, Some is.0, asks_some line is.0
 
 pub read_unended : (line : List ℕ) (old mid new : List (List ℕ)) → old ≡ line ∷ mid → AsksCalls line → IsCallsRead mid read.Unfinished new → IsRequest old None new
 read_unended line old mid new e asks is = (subst IsUnfinished (sym e) (asks, is.0), is.1)
+
+-- ---- a line that is a text
+
+pub record IsTextLine (text : String Global) (asks : Bool) (old mid : List (List ℕ)) : Type 0 where
+  pub lines_are : old ≡ string_bytes text ∷ mid
+  pub short : length (string_bytes text) ≤ 1048576
+  pub asks_is : asks ≡ takes_calls (words_of (string_bytes text))
+
+pub text_line : (text : String Global) (line : Vec ℕ Global) (lent : List ℕ) (asks : Bool) (old mid : List (List ℕ)) → string_bytes text ≡ line.items → lent ≡ string_bytes text → (old ≡ line.items ∷ mid) × (length line.items ≤ 1048576) → asks ≡ takes_calls (words_of lent)
+    → IsTextLine text asks old mid
+text_line text line lent asks old mid bytes same found is = record {
+  lines_are = found.0 ∙ ap (λ (b : List ℕ). b ∷ mid) (sym bytes);
+  short = subst (λ (b : List ℕ). length b ≤ 1048576) (sym bytes) found.1;
+  asks_is = is ∙ ap (λ (b : List ℕ). takes_calls (words_of b)) same;
+}
+
+does_ask : (text : String Global) (asks : Bool) (old mid : List (List ℕ)) → IsTextLine text asks old mid → asks ≡ true → AsksCalls (string_bytes text)
+does_ask text asks old mid line yes = record { utf8 = IsUtf8-string_bytes text; short = line.short; takes = sym line.asks_is ∙ yes }
+
+pub text_alone : (text : String Global) (asks : Bool) (old mid : List (List ℕ)) → IsTextLine text asks old mid → asks ≡ false → IsRequest old (Some (Text text None)) mid
+text_alone text asks old mid line no = read_text text old mid line.lines_are line.short (λ does. both_ways asks no (line.asks_is ∙ does.takes))
+
+pub text_asking : (text : String Global) (calls : Vec ℕ Global) (asks : Bool) (old mid new : List (List ℕ)) → IsTextLine text asks old mid → asks ≡ true → IsCallsRead mid (read.Text calls) new → IsRequest old (Some (Text text (Some calls))) new
+text_asking text calls asks old mid new line yes is = read_asking text calls old mid new line.lines_are line.short (does_ask text asks old mid line yes) is
+
+pub text_too_long : (text : String Global) (asks : Bool) (old mid new : List (List ℕ)) → IsTextLine text asks old mid → asks ≡ true → IsCallsRead mid read.TooLong new → IsRequest old (Some TooLong) new
+text_too_long text asks old mid new line yes is = read_too_long (string_bytes text) old mid new line.lines_are (does_ask text asks old mid line yes) is
+
+pub text_unended : (text : String Global) (asks : Bool) (old mid new : List (List ℕ)) → IsTextLine text asks old mid → asks ≡ true → IsCallsRead mid read.Unfinished new → IsRequest old None new
+text_unended text asks old mid new line yes is = read_unended (string_bytes text) old mid new line.lines_are (does_ask text asks old mid line yes) is

@@ -6,7 +6,9 @@ use Rattle.byte_sinks.specs.Putting.{IsCutShort}
 use Rattle.spec_block.specs.Worlds.{World}
 use Rattle.world.specs.Views.{world_view}
 use Rattle.wblock_io.specs.Holding.{Holding}
+use Rattle.wblock_line.specs.Answers.{memory_line}
 use Rattle.wblock_line.specs.declared.perform.Status.{Status}
+use Rattle.wblock_line.specs.declared.perform.Status.TheVariants as status
 use Rattle.wblock_chain.specs.Answered.{AnswersRequest, Gets, session_after}
 use Rattle.wblock_chain.specs.Replies.{reply}
 use Rattle.wblock_chain.specs.Requests.{AreShort, IsAskedLine, IsRequest}
@@ -93,10 +95,10 @@ told_push es e before after later bytes told is more = more ∙ (ap (λ (b : Lis
 
 pub one_more : (name : List ℕ) (w last : World) (lines mid rest : List (List ℕ)) (old files new : Holding) (a : Answered) (before after later : List ℕ) → SoFar name w lines mid old files last before after → Next name mid rest files new last a
     → later ≡ after ++ a.reply.items → a.quits ≡ false → SoFar name w lines rest old new (world_view a.world) before later
-one_more name w last lines mid rest old files new a before after later far n more open = record {
+one_more name w last lines mid rest old files new a before after later far n more goes = record {
   exchanges = far.exchanges ++ n.exchange ∷ [];
   run = run_push name far.exchanges lines mid rest (session old w) files new last a far.are_open far.run n;
-  are_open = open_push name far.exchanges n.exchange far.are_open (goes_on name mid rest files new last a n open);
+  are_open = open_push name far.exchanges n.exchange far.are_open (goes_on name mid rest files new last a n goes);
   told = told_push far.exchanges n.exchange before after later a.reply.items far.told n.reply_is more;
 }
 
@@ -171,3 +173,67 @@ cut_off name w last lines mid rest old files new a s before after later far n sh
 pub in_part : {T E : Type 0} (r : Result T E) (tells : Bool) (bytes before after : List ℕ) → OnOk r (IsTrue tells → after ≡ before ++ bytes) → OnErr r (IsTrue tells → IsCutShort before after bytes) → IsTrue tells → IsToldInPart bytes before after
 in_part (Ok x) tells bytes before after put cut t = (length bytes, put t ∙ ap (λ (b : List ℕ). before ++ b) (sym (take_all (length bytes) bytes (omega arith))))
 in_part (Err e) tells bytes before after put cut t = ((cut t).count, (cut t).told)
+
+-- ---- how a session ends
+
+abbrev IsFault : Status → Type 0
+IsFault s = (s ≡ status.File) ⊎ (s ≡ status.Memory)
+
+done_not_refused : (s : Status) → s ≡ status.Done → s ≡ status.Refused → ⊥
+done_not_refused s d r = let e : status.Done ≡ status.Refused = sym d ∙ r in absurd cc
+
+done_not_usage : (s : Status) → s ≡ status.Done → s ≡ status.Usage → ⊥
+done_not_usage s d u = let e : status.Done ≡ status.Usage = sym d ∙ u in absurd cc
+
+refused_not_usage : (s : Status) → s ≡ status.Refused → s ≡ status.Usage → ⊥
+refused_not_usage s r u = let e : status.Refused ≡ status.Usage = sym r ∙ u in absurd cc
+
+pub fault_not_done : (s : Status) → IsFault s → s ≡ status.Done → ⊥
+fault_not_done s (inl f) d = let e : status.File ≡ status.Done = sym f ∙ d in absurd cc
+fault_not_done s (inr m) d = let e : status.Memory ≡ status.Done = sym m ∙ d in absurd cc
+
+pub fault_not_refused : (s : Status) → IsFault s → s ≡ status.Refused → ⊥
+fault_not_refused s (inl f) r = let e : status.File ≡ status.Refused = sym f ∙ r in absurd cc
+fault_not_refused s (inr m) r = let e : status.Memory ≡ status.Refused = sym m ∙ r in absurd cc
+
+pub fault_not_usage : (s : Status) → IsFault s → s ≡ status.Usage → ⊥
+fault_not_usage s (inl f) u = let e : status.File ≡ status.Usage = sym f ∙ u in absurd cc
+fault_not_usage s (inr m) u = let e : status.Memory ≡ status.Usage = sym m ∙ u in absurd cc
+
+pub ended_not_refused : (s : Status) → (s ≡ status.Done) ⊎ IsFault s → s ≡ status.Refused → ⊥
+ended_not_refused s (inl d) r = done_not_refused s d r
+ended_not_refused s (inr f) r = fault_not_refused s f r
+
+pub ended_not_usage : (s : Status) → (s ≡ status.Done) ⊎ IsFault s → s ≡ status.Usage → ⊥
+ended_not_usage s (inl d) u = done_not_usage s d u
+ended_not_usage s (inr f) u = fault_not_usage s f u
+
+pub refused_not_done : (s : Status) → (s ≡ status.Refused) ⊎ IsFault s → s ≡ status.Done → ⊥
+refused_not_done s (inl r) d = done_not_refused s d r
+refused_not_done s (inr f) d = fault_not_done s f d
+
+pub refusal_not_usage : (s : Status) → (s ≡ status.Refused) ⊎ IsFault s → s ≡ status.Usage → ⊥
+refusal_not_usage s (inl r) u = refused_not_usage s r u
+refusal_not_usage s (inr f) u = fault_not_usage s f u
+
+-- a session that is done, or whose world was refused, says nothing
+pub ran_quiet : (s : Status) (P : Type 0) → (s ≡ status.Done) ⊎ IsFault s → (s ≡ status.Done → P) → (s ≡ status.Done) ⊎ (s ≡ status.Refused) → P
+ran_quiet s P ended quiet (inl d) = quiet d
+ran_quiet s P ended quiet (inr r) = absurd (ended_not_refused s ended r)
+
+pub refusal_quiet : (s : Status) (P : Type 0) → (s ≡ status.Refused) ⊎ IsFault s → (s ≡ status.Refused → P) → (s ≡ status.Done) ⊎ (s ≡ status.Refused) → P
+refusal_quiet s P is quiet (inl d) = absurd (refused_not_done s is d)
+refusal_quiet s P is quiet (inr r) = quiet r
+
+pub fault_quiet : (s : Status) (P : Type 0) → IsFault s → (s ≡ status.Done) ⊎ (s ≡ status.Refused) → P
+fault_quiet s P is (inl d) = absurd (fault_not_done s is d)
+fault_quiet s P is (inr r) = absurd (fault_not_refused s is r)
+
+-- what was told for lack of memory
+pub told_of_memory : (s : Status) (before after : List ℕ) → s ≡ status.Memory → IsToldInPart (reply [] memory_line status.Memory) before after → (said : List ℕ) × IsToldInPart (reply [] said s) before after
+told_of_memory s before after is part = (memory_line, subst (λ (x : Status). IsToldInPart (reply [] memory_line x) before after) (sym is) part)
+
+pub stopped_with : (name : List ℕ) (w last : World) (lines mid : List (List ℕ)) (old files new : Holding) (said : List ℕ) (s t : Status) (before after later : List ℕ) → SoFar name w lines mid old files last before after → new ≡ files → t ≡ s → IsToldInPart (reply [] said s) after later
+    → IsStoppedOver name w lines t old new before later
+stopped_with name w last lines mid old files new said s t before after later far kept is part =
+    subst (λ (h : Holding). IsStoppedOver name w lines t old h before later) (sym kept) (subst (λ (x : Status). IsStoppedOver name w lines x old files before later) (sym is) (stopped name w last lines mid old files said s before after later far part))

@@ -7,6 +7,7 @@ use Rattle.world.specs.Views.{world_view}
 use Rattle.wblock_calls.specs.Texts.{words_of}
 use Rattle.wblock_io.specs.Holding.{Holding, Changes}
 use Rattle.wblock_line.specs.Answers.{EndsLine, Written, Wrote, file_line, sentence_line, write_of}
+use Rattle.wblock_line.specs.Words.{Line, split}
 use Rattle.wblock_line.specs.declared.transition.Change.{Change}
 use Rattle.wblock_line.specs.declared.transition.NextWorld.{NextWorld}
 use Rattle.wblock_line.specs.declared.transition.Transition.{Transition}
@@ -42,16 +43,15 @@ pub record IsUsageReply (world : World) (a : Answered) : Type 0 where
 
 -- ---- what is done
 
--- the last of the writes is of a block that is told
-pub record EndsTold (writes : List Written) : Type 0 where
-  pub front : List Written
+-- the one write is of a block that is told
+pub record IsTold (writes : List Written) : Type 0 where
   pub bytes : List ℕ
-  pub are : writes ≡ front ++ (told_block, bytes) ∷ []
+  pub are : writes ≡ (told_block, bytes) ∷ []
 
--- the last of the writes is of a block that is told, and the others are of files; or all of them are
+-- the one write is of a block that is told, and no file is to be written; or all of the writes are of files
 abbrev pub AreApart : (writes : List Written) → (block : Option (List ℕ)) → (files : List Written) → Type 0
-AreApart writes (Some block) files = writes ≡ files ++ (told_block, block) ∷ []
-AreApart writes None files = (writes ≡ files) × ¬ EndsTold writes
+AreApart writes (Some block) files = (writes ≡ (told_block, block) ∷ []) × (files ≡ [])
+AreApart writes None files = (writes ≡ files) × ¬ IsTold writes
 
 -- the world that is left, or else this one
 abbrev pub world_left : Option NextWorld → World → World
@@ -130,6 +130,10 @@ AnswersAsked name c behind old new world a = (line : List ℕ) (calls : Option (
 
 abbrev pub AnswersText : (name text : List ℕ) → (behind : Option (List ℕ)) → (old new : Holding) → World → Answered → Type 0
 AnswersText name text behind old new world a = (calls : Option (List (List ℕ))) → text_of_calls calls ≡ behind → Gets name text calls old new world a
+
+-- whatever text is this line
+abbrev pub AnswersLine : (name : List ℕ) → Line → (behind : Option (List ℕ)) → (old new : Holding) → World → Answered → Type 0
+AnswersLine name line behind old new world a = (text : List ℕ) → IsUtf8 text → split (named (words_of text)) ≡ Some line → AnswersText name text behind old new world a
 
 -- whatever text has these words
 abbrev pub AnswersWords : (name : List ℕ) (words : List (List ℕ)) → (behind : Option (List ℕ)) → (old new : Holding) → World → Answered → Type 0

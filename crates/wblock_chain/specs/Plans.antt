@@ -72,6 +72,10 @@ IsLoneAsked (Save file) behind = Unit {0}
 IsLoneAsked Digest behind = Unit {0}
 IsLoneAsked Quit behind = Unit {0}
 
--- and behind no line of these words
-abbrev pub IsLoneLine : (name : List ℕ) (words : List (List ℕ)) (behind : Option (List ℕ)) → Type 0
-IsLoneLine name words behind = (line : Line) (c : SessionCommand) → split words ≡ Some line → IsAsked name line c → IsLoneAsked c behind
+-- of whatever the line asks for
+abbrev pub IsLoneLine : (name : List ℕ) → Line → (behind : Option (List ℕ)) → Type 0
+IsLoneLine name line behind = (c : SessionCommand) → IsAsked name line c → IsLoneAsked c behind
+
+-- of the line that the words are
+abbrev pub AreLoneWords : (name : List ℕ) (words : List (List ℕ)) (behind : Option (List ℕ)) → Type 0
+AreLoneWords name words behind = (line : Line) → split words ≡ Some line → IsLoneLine name line behind

@@ -31,8 +31,11 @@ IsRequest old (Some (Text line text)) new =
 IsRequest old (Some TooLong) new = (line : List ℕ) × (calls : Option (List (List ℕ))) × IsAskedLine line calls old new × ((1048576 < length line) ⊎ ¬ IfSome calls AreShort)
 IsRequest old (Some NotUtf8) new = (line : List ℕ) × IsAskedLine line None old new × ¬ IsUtf8 line
 
--- calls stand behind the text where it asks for them alone
+-- calls stand behind a text where it asks for them alone
+abbrev pub AreAsked : (text : List ℕ) (behind : Option (List ℕ)) → Type 0
+AreAsked text behind = IfSome behind (λ calls. takes_calls (words_of text) ≡ true)
+
 abbrev pub TakesCalls : Request → Type 0
-TakesCalls (Text line calls) = IfSome calls (λ text. takes_calls (words_of (string_bytes line)) ≡ true)
+TakesCalls (Text line calls) = AreAsked (string_bytes line) (option_map (λ text. text.items) calls)
 TakesCalls TooLong = Unit {0}
 TakesCalls NotUtf8 = Unit {0}

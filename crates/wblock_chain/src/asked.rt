@@ -97,11 +97,7 @@ fn push_calls<'a>(made: &mut Vec<&'a str>, words: &[&'a str]) -> Result<(), Allo
 }
 
 /// Puts the words behind the first.
-fn push_behind<'a>(
-    made: &mut Vec<&'a str>,
-    word: &str,
-    words: &[&'a str],
-) -> Result<(), AllocError>
+fn push_behind<'a>(made: &mut Vec<&'a str>, word: &str, words: &[&'a str]) -> Result<(), AllocError>
     ensures { OnOk result (texts made.new.items ≡ texts made.old.items ++ named_behind word.now (texts words.now)) }
 {
     if are_same(word, "mine") {

@@ -1,7 +1,7 @@
 //! What a session answers to a line, exactly.
 
-ghost use Rattle.std.specs.Prelude.{◌≡◌, ◌++◌, ◌∷◌, [], true, IfOk, OnOk, option_map, string_bytes};
-ghost use Rattle.wblock_chain.specs.Replies.{block_line, digest_line, mark, marked, number_of, reply};
+ghost use Rattle.std.specs.Prelude.{◌≡◌, ◌++◌, ◌∷◌, [], true, IfOk, OnOk, length, option_map, string_bytes};
+ghost use Rattle.wblock_chain.specs.Replies.{block_line, digest_line, mark, marked, number_of, reply, saved_line};
 
 use std::alloc::{AllocError, Global};
 use wblock_line::Status;
@@ -85,4 +85,19 @@ pub(crate) fn digest_line_of(alloc: Global, digest: [u8; 32]) -> Result<String, 
 {
     let digits = hex::encode(alloc, digest)?;
     format!(in alloc; "digest {digits}\n")
+}
+
+/// `saved N bytes`.
+fn saved_line_of(alloc: Global, count: usize) -> Result<String, AllocError>
+    ensures { IfOk result (λ line. string_bytes line ≡ saved_line count) }
+{
+    format!(in alloc; "saved {count} bytes\n")
+}
+
+/// The answer where these bytes were saved.
+pub(crate) fn saved_reply_of(alloc: Global, bytes: &[u8]) -> Result<Vec<u8>, AllocError>
+    ensures { IfOk result (λ told. told.items ≡ reply (saved_line (length bytes.now)) [] Status.Done) }
+{
+    let text = saved_line_of(alloc, bytes.len())?;
+    reply_of(alloc, text.as_str(), "", Status::Done)
 }

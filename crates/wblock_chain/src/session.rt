@@ -1,27 +1,27 @@
 //! A session: its lines are answered one after another, over a world that it keeps.
 
-ghost use Rattle.std.specs.Prelude.{◌≡◌, ◌≢◌, ◌+◌, ◌≤◌, ◌⊎◌, ◌++◌, ◌↔◌, ℕ, List, [], true, IsTrue, IsSome, IfOk, IfSome, OnErr, codes, option_map, length, map, string_bytes, vec_len};
+ghost use Rattle.std.specs.Prelude.{◌≡◌, ◌≢◌, ◌+◌, ◌≤◌, ◌⊎◌, ◌++◌, ◌↔◌, ◌∷◌, ℕ, List, [], IsTrue, IsSome, IfOk, IfSome, OnErr, codes, option_map, length, map, string_bytes, vec_len};
 ghost use Rattle.sha2.specs.Sha256.{sha256};
 ghost use Rattle.spec_block.specs.Bytes.{world_bytes};
 ghost use Rattle.world.specs.Views.{contract_view, world_view};
 ghost use Rattle.wblock_line.specs.Answers.{IsSaid, file_line, memory_line, sentence_line, write_of};
+ghost use Rattle.wblock_line.specs.Words.{line_of};
 ghost use Rattle.wblock_line.specs.declared.perform.Status.{Status as Shown};
 ghost use Rattle.wblock_commands.specs.Words.{HasFew};
-ghost use Rattle.wblock_chain.specs.Answered.{AnswersAsked, AnswersText, AnswersRequest, AnswersWords, AreApart, EndsTold, IsExtended, IsFileReply, IsNotSaved, IsSaved, IsUsageReply, MovesOn, Quits, Settles, SettlesTransition, world_left};
-ghost use Rattle.wblock_calls.specs.Texts.{words_of};
+ghost use Rattle.wblock_chain.specs.Answered.{AnswersAsked, AnswersLine, AnswersText, AnswersRequest, AnswersWords, AreApart, IsExtended, IsFileReply, IsNotSaved, IsSaved, IsTold, IsUsageReply, MovesOn, Quits, Settles, SettlesTransition, world_left};
 ghost use Rattle.wblock_calls.specs.Words.{texts};
-ghost use Rattle.wblock_chain.specs.Plans.{FitsOne, IsLone, IsLoneAsked, IsLoneLine};
-ghost use Rattle.wblock_chain.specs.Requests.{TakesCalls};
+ghost use Rattle.wblock_chain.specs.Plans.{AreLoneWords, FitsOne, IsLone, IsLoneAsked, IsLoneLine};
+ghost use Rattle.wblock_chain.specs.Requests.{AreAsked, TakesCalls};
 ghost use Rattle.wblock_chain.specs.Replies.{block_line, digest_line, reply};
 ghost use Rattle.wblock_chain.specs.Sessions.{HasNotBegun, IsSession, IsSessionOver, IsStopped, IsStoppedOver, IsToldInPart, RefusesWorld};
-ghost use Rattle.wblock_chain.specs.Words.{IsFewAsked, IsOver, IsOverAsked, takes_calls};
+ghost use Rattle.wblock_chain.specs.Words.{IsFewAsked, IsOver, IsOverAsked};
 
 use crate::asked::{SessionCommand, TOLD_BLOCK, line_words, session_command_of, single_line};
 use crate::plan::{Plan, plan_of};
-use crate::replies::{block_line_of, digest_line_of, reply_of};
+use crate::replies::{block_line_of, digest_line_of, reply_of, saved_reply_of};
 use crate::request::{Request, next_request};
 use crate::usage::{NOT_UTF8, TOO_LONG, usage_of};
-use byte_sinks::{Sink, put_all};
+use byte_sinks::{Sink, SinkFault, put_all};
 use link::deployed::Deployed;
 use pace::Pace;
 use std::alloc::{AllocError, Global};
@@ -30,7 +30,7 @@ use std::thread::Threads;
 use wblock_commands::Command;
 use wblock_io::{Cause, Files, LineFault, Lines, WriteFault, write_file};
 use wblock_line::{
-    Change, Fault, NextWorld, Status, Transition, WorldFile, Write, is_word, read_world_file,
+    Change, Fault, Line, NextWorld, Status, Transition, WorldFile, Write, is_word, read_world_file,
     split_words, tell_fault, write_files,
 };
 use wblock_modules::extend;
@@ -66,12 +66,33 @@ fn answer_with(
     })
 }
 
+/// A text and a newline.
+fn ended(alloc: Global, text: &str) -> Result<String, AllocError>
+    ensures { IfOk result (λ line. string_bytes line ≡ text.now ++ 10 ∷ []) }
+{
+    format!(in alloc; "{text}\n")
+}
+
 /// The answer to a line that asks for nothing, of which this is said. The world stays.
 fn refuse_line(alloc: Global, world: World, usage: &str) -> Result<Answered, NoMemory>
     ensures { IfOk result (IsUsageReply (world_view world)) }
 {
-    let said = format!(in alloc; "{usage}\n")?;
+    let said = ended(alloc, usage)?;
     answer_with(alloc, world, "", said.as_str(), Status::Usage)
+}
+
+/// `file NAME`.
+fn file_line_of(alloc: Global, name: &str) -> Result<String, AllocError>
+    ensures { IfOk result (λ said. string_bytes said ≡ file_line name.now) }
+{
+    format!(in alloc; "file {name}\n")
+}
+
+/// The same, and a line behind it.
+fn file_lines_of(alloc: Global, name: &str, why: &str) -> Result<String, AllocError>
+    ensures { IfOk result (λ said. string_bytes said ≡ file_line name.now ++ (why.now ++ 10 ∷ [])) }
+{
+    format!(in alloc; "file {name}\n{why}\n")
 }
 
 /// What is said of a file that failed: `file NAME`, and in a line behind it why, where that is known.
@@ -80,9 +101,9 @@ fn said_of_file(alloc: Global, name: &str, cause: Cause) -> Result<String, Alloc
 {
     let why = cause.words();
     if why.is_empty() {
-        return format!(in alloc; "file {name}\n");
+        return file_line_of(alloc, name);
     }
-    format!(in alloc; "file {name}\n{why}\n")
+    file_lines_of(alloc, name, why)
 }
 
 /// The answer where a file failed. The world stays.
@@ -93,13 +114,13 @@ fn failed(alloc: Global, world: World, name: &str, cause: Cause) -> Result<Answe
     answer_with(alloc, world, "", said.as_str(), Status::File)
 }
 
-/// Whether the last of these writes is of a block that is told.
-fn tells_block(writes: &[Write]) -> bool
-    ensures { IsTrue result ↔ EndsTold (map write_of writes.now) }
+/// Whether the one write is of a block that is told.
+fn is_told(writes: &[Write]) -> bool
+    ensures { IsTrue result ↔ IsTold (map write_of writes.now) }
 {
     match writes {
-        [.., last] => is_word(last.name, TOLD_BLOCK),
-        [] => false,
+        [write] => is_word(write.name, TOLD_BLOCK),
+        _ => false,
     }
 }
 
@@ -108,7 +129,7 @@ fn told_apart<'w>(writes: Vec<Write<'w>>) -> (Option<Vec<u8>>, Vec<Write<'w>>)
     ensures { AreApart (map write_of writes.entry.items) (option_map (λ block. block.items) result.0) (map write_of result.1.items) }
 {
     let mut writes = writes;
-    if !tells_block(writes.as_slice()) {
+    if !is_told(writes.as_slice()) {
         return (None, writes);
     }
     match writes.pop() {
@@ -192,7 +213,7 @@ fn settle_transition<'w, F: Files>(
     match transition {
         Transition::Done(change) => settle(alloc, files, world, change),
         Transition::Refused(line, why) => {
-            let said = format!(in alloc; "{why}\n")?;
+            let said = ended(alloc, why.as_str())?;
             answer_with(alloc, world, line.as_str(), said.as_str(), Status::Refused)
         }
     }
@@ -270,10 +291,9 @@ fn answer_save<F: Files>(
     ensures kept { OnErr result (IsTrue F.tells → F.holds files.new ≡ F.holds files.old) }
 {
     let bytes = encode_world(alloc, &world)?;
-    let count = bytes.len();
-    let text = format!(in alloc; "saved {count} bytes\n")?;
-    let reply = reply_of(alloc, text.as_str(), "", Status::Done)?;
-    match write_file(files, file, bytes.as_slice()) {
+    let saved = bytes.as_slice();
+    let reply = saved_reply_of(alloc, saved)?;
+    match write_file(files, file, saved) {
         Ok(()) => Ok(Answered {
             world,
             reply,
@@ -337,28 +357,48 @@ fn answer_command<'l, 'w, R: Threads + Wait + Sync, F: Files, P: Pace>(
     }
 }
 
-/// The answer to a line of these words.
-fn answer_words<'a, R: Threads + Wait + Sync, F: Files, P: Pace>(
+/// The answer to a line; or what is said of it, where it asks for nothing.
+fn answer_line<'w, R: Threads + Wait + Sync, F: Files, P: Pace>(
     rt: &R,
     alloc: Global,
     files: &mut F,
-    name: &'a str,
+    name: &'w str,
     world: World,
-    words: &'a [&'a str],
+    line: &Line<'w>,
+    usage: &str,
     behind: Option<Vec<u8>>,
     pace: &P,
 ) -> Result<Answered, NoMemory>
-    requires { IsLoneLine name.now (texts words.now) (option_map (λ text. text.items) behind) }
+    requires { IsLoneLine name.now (line_of line.now) (option_map (λ text. text.items) behind) }
+    ensures answer { IfOk result (λ a. IsTrue F.tells → AnswersLine name.entry.now (line_of line.now) (option_map (λ text. text.items) behind) (F.holds files.old) (F.holds files.new) (world_view world) a) }
+    ensures kept { OnErr result (IsTrue F.tells → F.holds files.new ≡ F.holds files.old) }
+{
+    let single = single_line(alloc, name, line)?;
+    match session_command_of(alloc, name, line, &single)? {
+        Some(command) => answer_command(rt, alloc, files, name, world, command, behind, pace),
+        None => refuse_line(alloc, world, usage),
+    }
+}
+
+/// The answer to a line of these words.
+fn answer_words<'w, R: Threads + Wait + Sync, F: Files, P: Pace>(
+    rt: &R,
+    alloc: Global,
+    files: &mut F,
+    name: &'w str,
+    world: World,
+    words: &'w [&'w str],
+    behind: Option<Vec<u8>>,
+    pace: &P,
+) -> Result<Answered, NoMemory>
+    requires { AreLoneWords name.now (texts words.now) (option_map (λ text. text.items) behind) }
     ensures answer { IfOk result (λ a. IsTrue F.tells → AnswersWords name.entry.now (texts words.entry.now) (option_map (λ text. text.items) behind) (F.holds files.old) (F.holds files.new) (world_view world) a) }
     ensures kept { OnErr result (IsTrue F.tells → F.holds files.new ≡ F.holds files.old) }
 {
-    let Some(line) = split_words(alloc, words)? else {
-        return refuse_line(alloc, world, usage_of(words));
-    };
-    let single = single_line(alloc, name, &line)?;
-    match session_command_of(alloc, name, &line, &single)? {
-        Some(command) => answer_command(rt, alloc, files, name, world, command, behind, pace),
-        None => refuse_line(alloc, world, usage_of(words)),
+    let usage = usage_of(words);
+    match split_words(alloc, words)? {
+        Some(line) => answer_line(rt, alloc, files, name, world, &line, usage, behind, pace),
+        None => refuse_line(alloc, world, usage),
     }
 }
 
@@ -373,12 +413,21 @@ fn answer_text<R: Threads + Wait + Sync, F: Files, P: Pace>(
     behind: Option<Vec<u8>>,
     pace: &P,
 ) -> Result<Answered, NoMemory>
-    requires { IfSome behind (λ calls. takes_calls (words_of text.now) ≡ true) }
+    requires { AreAsked text.now (option_map (λ text. text.items) behind) }
     ensures answer { IfOk result (λ a. IsTrue F.tells → AnswersText name.now text.now (option_map (λ text. text.items) behind) (F.holds files.old) (F.holds files.new) (world_view world) a) }
     ensures kept { OnErr result (IsTrue F.tells → F.holds files.new ≡ F.holds files.old) }
 {
     let words = line_words(alloc, text)?;
-    answer_words(rt, alloc, files, name, world, words.as_slice(), behind, pace)
+    answer_words(
+        rt,
+        alloc,
+        files,
+        name,
+        world,
+        words.as_slice(),
+        behind,
+        pace,
+    )
 }
 
 /// The answer to a line with the calls behind it.
@@ -404,14 +453,20 @@ fn answer<R: Threads + Wait + Sync, F: Files, P: Pace>(
     }
 }
 
+/// Puts bytes, or a beginning of them where a call fails: a fault of the output changes no status here.
+fn put_in_part<O: Sink>(out: &mut O, bytes: &[u8])
+    ensures { IsTrue O.tells → IsToldInPart bytes.now (O.told out.old) (O.told out.new) }
+{
+    let _ = put_all(out, bytes);
+}
+
 /// Ends a session for lack of memory. This takes none.
 fn end_for_memory<O: Sink, E: Sink>(out: &mut O, err: &mut E) -> Status
     ensures status { result ≡ Status.Memory }
     ensures told { IsTrue O.tells → IsToldInPart (reply [] memory_line Status.Memory) (O.told out.old) (O.told out.new) }
     ensures said { IsTrue E.tells → IsSaid memory_line (E.told err.old) (E.told err.new) (E.failures err.old) (E.failures err.new) }
 {
-    // a fault of a stream changes no status here
-    let _ = put_all(out, b"# memory\nstatus 4\n");
+    put_in_part(out, b"# memory\nstatus 4\n");
     tell_fault(Fault::NoMemory, err)
 }
 
@@ -420,7 +475,7 @@ fn end_for_input<O: Sink, E: Sink>(out: &mut O, err: &mut E) -> Status
     ensures status { result ≡ Status.File }
     ensures told { IsTrue O.tells → IsToldInPart (reply [] (file_line (codes "stdin")) Status.File) (O.told out.old) (O.told out.new) }
 {
-    let _ = put_all(out, b"# file stdin\nstatus 3\n");
+    put_in_part(out, b"# file stdin\nstatus 3\n");
     tell_fault(Fault::File("stdin", Cause::Other), err)
 }
 
@@ -453,7 +508,7 @@ fn run_over<R: Threads + Wait + Sync, F: Files, L: Lines, O: Sink, E: Sink, P: P
         let Ok(answered) = answer(rt, alloc, files, name, world, request, pace) else {
             return end_for_memory(out, err);
         };
-        if put_all(out, answered.reply.as_slice()).is_err() {
+        if let Err(SinkFault) = put_all(out, answered.reply.as_slice()) {
             return tell_fault(Fault::File("stdout", Cause::Other), err);
         }
         if answered.quits {
@@ -465,23 +520,66 @@ fn run_over<R: Threads + Wait + Sync, F: Files, L: Lines, O: Sink, E: Sink, P: P
     end_for_input(out, err)
 }
 
+/// The answer where the file of the world failed.
+fn file_reply_of(alloc: Global, name: &str, cause: Cause) -> Result<Vec<u8>, AllocError>
+    ensures { IfOk result (λ bytes. (said : List ℕ) × (bytes.items ≡ reply [] said Status.File)) }
+{
+    let said = said_of_file(alloc, name, cause)?;
+    reply_of(alloc, "", said.as_str(), Status::File)
+}
+
+/// Ends a session whose file of the world failed.
+fn end_for_file<O: Sink, E: Sink>(
+    alloc: Global,
+    name: &str,
+    cause: Cause,
+    out: &mut O,
+    err: &mut E,
+) -> Status
+    ensures status { (result ≡ Status.File) ⊎ (result ≡ Status.Memory) }
+    ensures told { IsTrue O.tells → (said : List ℕ) × IsToldInPart (reply [] said result) (O.told out.old) (O.told out.new) }
+    ensures memory_said { result ≡ Status.Memory → IsTrue E.tells → IsSaid memory_line (E.told err.old) (E.told err.new) (E.failures err.old) (E.failures err.new) }
+{
+    match file_reply_of(alloc, name, cause) {
+        Ok(reply) => {
+            put_in_part(out, reply.as_slice());
+            tell_fault(Fault::File(name, cause), err)
+        }
+        Err(AllocError) => end_for_memory(out, err),
+    }
+}
+
 /// Ends a session whose world could not be read.
 fn end_unbegun<O: Sink, E: Sink>(alloc: Global, fault: Fault, out: &mut O, err: &mut E) -> Status
     ensures status { (result ≡ Status.File) ⊎ (result ≡ Status.Memory) }
     ensures told { IsTrue O.tells → (said : List ℕ) × IsToldInPart (reply [] said result) (O.told out.old) (O.told out.new) }
     ensures memory_said { result ≡ Status.Memory → IsTrue E.tells → IsSaid memory_line (E.told err.old) (E.told err.new) (E.failures err.old) (E.failures err.new) }
 {
-    let Fault::File(name, cause) = fault else {
-        return end_for_memory(out, err);
-    };
-    let Ok(said) = said_of_file(alloc, name, cause) else {
-        return end_for_memory(out, err);
-    };
-    let Ok(reply) = reply_of(alloc, "", said.as_str(), Status::File) else {
-        return end_for_memory(out, err);
-    };
-    let _ = put_all(out, reply.as_slice());
-    tell_fault(fault, err)
+    match fault {
+        Fault::File(name, cause) => end_for_file(alloc, name, cause, out, err),
+        Fault::NoMemory => end_for_memory(out, err),
+    }
+}
+
+/// The answer where the file of the world holds none.
+fn refused_reply_of(alloc: Global, line: &str, why: &str) -> Result<Vec<u8>, AllocError>
+    ensures { IfOk result (λ bytes. (said : List ℕ) × (bytes.items ≡ reply line.now said Status.Refused)) }
+{
+    let said = ended(alloc, why)?;
+    reply_of(alloc, line, said.as_str(), Status::Refused)
+}
+
+/// Tells the answer of a session whose file of the world holds none.
+fn tell_refused<O: Sink, E: Sink>(reply: &[u8], out: &mut O, err: &mut E) -> Status
+    ensures status { (result ≡ Status.Refused) ⊎ (result ≡ Status.File) }
+    ensures refused { result ≡ Status.Refused → IsTrue O.tells → O.told out.new ≡ O.told out.old ++ reply.now }
+    ensures told { result ≢ Status.Refused → IsTrue O.tells → IsToldInPart reply.now (O.told out.old) (O.told out.new) }
+    ensures quiet { result ≡ Status.Refused → err.new ≡ err.old }
+{
+    match put_all(out, reply) {
+        Ok(()) => Status::Refused,
+        Err(SinkFault) => tell_fault(Fault::File("stdout", Cause::Other), err),
+    }
 }
 
 /// Ends a session whose file of the world holds none.
@@ -498,15 +596,9 @@ fn end_refused<O: Sink, E: Sink>(
     ensures quiet { result ≡ Status.Refused → err.new ≡ err.old }
     ensures memory_said { result ≡ Status.Memory → IsTrue E.tells → IsSaid memory_line (E.told err.old) (E.told err.new) (E.failures err.old) (E.failures err.new) }
 {
-    let Ok(said) = format!(in alloc; "{why}\n") else {
-        return end_for_memory(out, err);
-    };
-    let Ok(reply) = reply_of(alloc, line, said.as_str(), Status::Refused) else {
-        return end_for_memory(out, err);
-    };
-    match put_all(out, reply.as_slice()) {
-        Ok(()) => Status::Refused,
-        Err(_) => tell_fault(Fault::File("stdout", Cause::Other), err),
+    match refused_reply_of(alloc, line, why) {
+        Ok(reply) => tell_refused(reply.as_slice(), out, err),
+        Err(AllocError) => end_for_memory(out, err),
     }
 }
 

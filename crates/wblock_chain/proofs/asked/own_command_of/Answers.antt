@@ -6,5 +6,10 @@ use Rattle.wblock_chain.proofs.asked.own_command_of.Goals as goal
 pub returns-then-not-is_empty : goal.returns-then-not-is_empty
 returns-then-not-is_empty c = nothing_own (line_of c.args.line.now) (λ file words options. search rules) (λ words options. search rules) (λ words options. search rules)
 
-pub returns : goal.returns
-returns c = nothing_own (line_of c.args.line.now) (λ file words options. search rules) (λ words options. search rules) (λ words options. search rules)
+pub returns-in-None : goal.returns-in-None
+returns-in-None c =
+    let words = (line_of c.args.line.now).words in
+    let saved : (file : List ℕ) → ¬ (words ≡ codes "save" ∷ file ∷ []) = search rules in
+    let digest : ¬ (words ≡ codes "digest" ∷ []) = search rules in
+    let quit : ¬ (words ≡ codes "quit" ∷ []) = search rules in
+    nothing_own (line_of c.args.line.now) (λ file words options. saved file words) (λ words options. digest words) (λ words options. quit words)

@@ -6,6 +6,7 @@ use Rattle.wblock_commands.specs.Does.{Reads}
 use Rattle.wblock_commands.specs.declared.command.Command.TheVariants.{Call, Deploy}
 use Rattle.wblock_chain.specs.Plans.{IsPlan}
 use Rattle.wblock_chain.specs.Sessions.{standing}
+use Rattle.wblock_chain.proofs.Planning.{none_other}
 use Rattle.wblock_chain.proofs.Standing.{at_world}
 use Rattle.wblock_chain.proofs.plan.plan_of.Goals as goal
 
@@ -30,3 +31,6 @@ returns-in-Deploy-clause-reads g c =
     (IfErr-weaker c.plan_deploy.result _ _ (λ f is.
     of_file_weaker (λ file. IsTrue g.F.Files.tells → Reads (Deploy c.in-Deploy.task) (standing c.args._name.now w None None files) file) _ f
     (λ file reads t. subst (λ (b : Option (List ℕ)). Reads (Deploy c.in-Deploy.task) (standing c.args._name.now w b None files) file) (sym (rw c.in-Deploy.is at c.requires.lone)) (reads t)) is) c.plan_deploy.ensures.reads)
+
+pub unreachable-requires : goal.unreachable-requires
+unreachable-requires g c = none_other c.args._name.now c.args.command c.requires.over c.in_default.not-Mine c.in_default.not-Validate c.in_default.not-Call c.in_default.not-Deploy

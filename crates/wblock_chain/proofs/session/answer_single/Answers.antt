@@ -1,7 +1,7 @@
-use Rattle.std.proofs.Common.{option_map, subst, ◌∙◌}
-use Rattle.std.proofs.lemmas.Result.{IfOk-weaker}
+use Rattle.std.proofs.Common.{option_map, ◌∙◌}
+use Rattle.std.proofs.lemmas.Result.{IfOk-weaker, on_err_weaker}
 use Rattle.world.specs.Views.{world_view}
-use Rattle.wblock_chain.proofs.Answering.{answers_failed, answers_linked, answers_made}
+use Rattle.wblock_chain.proofs.Answering.{answers_failed, answers_linked, answers_made, on_err}
 use Rattle.wblock_chain.proofs.Planning.{fits_one}
 use Rattle.wblock_chain.proofs.session.answer_single.Goals as goal
 
@@ -24,3 +24,12 @@ returns-in-Ok-Linked-clause-answer g c = IfOk-weaker c.settle_contracts.result _
 pub returns-in-Err-File-clause-answer : goal.returns-in-Err-File-clause-answer
 returns-in-Err-File-clause-answer g c = IfOk-weaker c.failed.result _ _ (λ a reply t.
     answers_failed c.args.name.now c.args.command (option_map (λ b. b.items) c.args.behind) (g.F.Files.holds c.args.files.now) (g.F.Files.holds c.plan_of.new.files) (world_view c.args.world) c.in-Err-File.file.now a ((rw c.in-Err-File.field-0-is at c.in-Err-File.ensures.reads) t) (c.in-Err-File.ensures.kept t) reply) c.failed.ensures
+
+pub returns-in-Ok-Made-clause-kept : goal.returns-in-Ok-Made-clause-kept
+returns-in-Ok-Made-clause-kept g c = on_err_weaker c.settle_transition.result (λ kept t. kept t ∙ c.in-Ok-Made.ensures.kept t) c.settle_transition.ensures.kept
+
+pub returns-in-Ok-Linked-clause-kept : goal.returns-in-Ok-Linked-clause-kept
+returns-in-Ok-Linked-clause-kept g c = on_err c.settle_contracts.result _ c.in-Ok-Linked.ensures.kept
+
+pub returns-in-Err-File-clause-kept : goal.returns-in-Err-File-clause-kept
+returns-in-Err-File-clause-kept g c = on_err c.failed.result _ c.in-Err-File.ensures.kept
