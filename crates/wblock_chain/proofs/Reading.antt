@@ -61,7 +61,7 @@ pub long_read : (fits : Bool) (text line : List ℕ) (old mid new : List (List �
 long_read fits text line old mid new are m long = record {
   calls = are.calls ++ line ∷ [];
   lines_are = behind_calls are.calls line old mid new are.lines_are m;
-  full = All-push (λ line. line ≢ []) are.calls line are.full (λ e. let none = ap length e in absurd (omega (arith, none, long)));
+  full = All-push (λ line. line ≢ []) are.calls line are.full (λ e. let none = ap (λ (b : List ℕ). length b) e in absurd (omega (arith, none, long)));
   fit = λ all.
       let last : AreShort (line ∷ []) = subst AreShort (drop_at are.calls (line ∷ []) (length are.calls) refl) (All-drop (λ line. length line ≤ 1048576) (length are.calls) (are.calls ++ line ∷ []) all) in
       let short = All-head (λ line. length line ≤ 1048576) line [] last in

@@ -234,8 +234,7 @@ fn plan_deploy<'l, 'w, F: Files>(
     }
 }
 
-/// What a single command comes to over the world of a session, whose name is this one: nothing is written yet. The calls behind the line are those of the
-/// file of their name.
+/// What a single command comes to over the world of a session. Nothing is written yet. The calls behind the line are those of the file of their name.
 pub(crate) fn plan_of<'l, 'w, R: Threads + Wait + Sync, F: Files, P: Pace>(
     rt: &R,
     alloc: Global,

@@ -169,8 +169,7 @@ fn world_after(next: Option<NextWorld>, world: World) -> World
     }
 }
 
-/// Writes the files of a change, and goes on with the world that it leaves; or, where a file fails, with the world before it. The answer is made before the
-/// first file is written, so that want of memory leaves all files as they were.
+/// Writes the files of a change and goes on with the world that it leaves; or, where one fails, with the world before it. The answer is made first.
 fn settle<'w, F: Files>(
     alloc: Global,
     files: &mut F,
@@ -309,13 +308,8 @@ fn answer_digest(alloc: Global, world: World) -> Result<Answered, NoMemory>
 {
     let digest = digest_world(alloc, &world)?;
     let text = digest_line_of(alloc, digest)?;
-    answer_with(
-        alloc,
-        world.with_digest(digest),
-        text.as_str(),
-        "",
-        Status::Done,
-    )
+    let known = world.with_digest(digest);
+    answer_with(alloc, known, text.as_str(), "", Status::Done)
 }
 
 /// The answer to `quit`.
@@ -602,10 +596,9 @@ fn end_refused<O: Sink, E: Sink>(
     }
 }
 
-/// Runs a session over the world that the file of this name holds: reads lines up to `quit` or to their end, and answers each at once. A line is `mine CALLS
-/// BLOCK ..`, `validate CALLS BLOCK ..`, `call ..`, `deploy MODULE...`, each a single command over the files in which WORLD holds the session's world, whatever
-/// its own file holds: what the command writes to WORLD is the world that the session goes on with. Or it is `save FILE`, `digest` or `quit`. An answer is
-/// what the command prints, then each line that it says on standard error behind `# `, and last `status N`.
+/// Runs a session over the world that the file of this name holds: reads lines up to `quit` or to their end, and answers each at once. A line is a single
+/// command over the files in which WORLD holds the session's world: what it writes to WORLD is the world that the session goes on with. Or it is `save FILE`,
+/// `digest` or `quit`. An answer is what the command prints, then each line that it says on standard error behind `# `, and last `status N`.
 ///
 /// The status: 0 at the end, 1 where the file of the world holds none, 3 where it failed, or the input or the output did, 4 where memory was refused. Each
 /// but 0 is answered, too, as far as that can be. A line is answered whole or not done: all its memory is taken before its file is written.

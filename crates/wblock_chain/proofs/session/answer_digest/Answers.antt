@@ -14,4 +14,4 @@ pub returns : goal.returns
 returns c =
     let told = digest_line (sha256 (world_bytes (world_view c.args.world))) in
     let text = c.as_str.ensures.value ∙ (c.in_ok-text.ensures ∙ ap digest_line c.in_ok-digest.ensures) in
-    IfOk-weaker c.answer_with.result _ _ (λ a moves. subst (λ (w : World). MovesOn w told [] status.Done a) c.with_digest.ensures (moved (world_view c.with_digest.result) c.as_str.result.now told [] [] status.Done a text refl moves)) c.answer_with.ensures
+    IfOk-weaker c.answer_with.result _ _ (λ a moves. subst (λ (w : World). MovesOn w told [] status.Done a) c.with_digest-known.ensures (moved (world_view c.with_digest-known.result) c.as_str.result.now told [] [] status.Done a text refl moves)) c.answer_with.ensures
