@@ -57,7 +57,7 @@ file_said file (c ∷ cs) = (file_line file ++ (c ∷ cs), sym (append_assoc (fi
 
 -- a sentence that is not empty has a line of its own
 pub sentence_is : (b : Bool) (why : List ℕ) → b ≡ (length why == 0) → b ≡ false → sentence_line why ≡ why ++ 10 ∷ []
-sentence_is b [] is e = let no : (0 == 0) ≡ false = sym is ∙ e in absurd cc
+sentence_is b [] is e = let never : (0 == 0) ≡ false = sym is ∙ e in absurd cc
 sentence_is b (c ∷ cs) is e = refl
 
 abbrev session : Holding → World → Session
@@ -68,11 +68,11 @@ same_session old new w a files world = ap₂ session files world
 
 -- a session that moves on ends where the line was `quit`, which it was not
 stays : (name : List ℕ) (e : Exchange) (w : World) (text said : List ℕ) (s : Status) (a : Answered) → MovesOn w text said s a → (IsQuit name e → ⊥) → (a.quits ≡ true) ↔ IsQuit name e
-stays name e w text said s a moves no = (λ quits. absurd (both_ways a.quits moves.goes_on quits), λ is. absurd (no is))
+stays name e w text said s a moves never = (λ quits. absurd (both_ways a.quits moves.goes_on quits), λ is. absurd (never is))
 
 -- what is not done is no `quit`
 not_done : (name : List ℕ) (e : Exchange) (s : Status) → e.status ≡ s → (s ≡ status.Done → ⊥) → IsQuit name e → ⊥
-not_done name e s is no quits = no (sym is ∙ quits.status_is)
+not_done name e s is never quits = never (sym is ∙ quits.status_is)
 
 usage_not_done : status.Usage ≡ status.Done → ⊥
 usage_not_done e = absurd cc
@@ -279,7 +279,7 @@ no_files name c calls old new w next left same = record {
 
 no_block : (name : List ℕ) (c : Command) (calls : Option (List ℕ)) (old new : Holding) (w : World) (next : Option NextWorld) (block : Option (List ℕ)) (files : List Written) → IfSome next (λ n. n.name.now ≡ name) → AreApart [] block files → Wrote files old new
     → WritesOver name c calls old new w (world_left next w) (next_write next) block
-no_block name c calls old new w next (Some b) files left apart wrote = let no = apart.0 in absurd cc
+no_block name c calls old new w next (Some b) files left apart wrote = let never = apart.0 in absurd cc
 no_block name c calls old new w next None files left apart wrote = no_files name c calls old new w next left (subst (λ (ws : List Written). Wrote ws old new) (sym apart.0) wrote)
 
 told_over : (name : List ℕ) (c : Command) (calls : Option (List ℕ)) (old new : Holding) (w : World) (next : Option NextWorld) (file bytes : List ℕ) → IfSome next (λ n. n.name.now ≡ name) → file ≢ name → file ≡ told_block → TellsBlock c → new ≡ old

@@ -1,11 +1,11 @@
 -- What the words of a line ask for is over the session's world.
-use Rattle.std.proofs.Common.{◌≡◌, ◌≢◌, ℕ, ◌+◌, ◌≤◌, ◌⊎◌, List, [], ◌∷◌, ◌++◌, Bool, true, false, ◌||◌, Option, Some, None, IfSome, MatchOption, Bor, bytes_eq, codes, length, if◌then◌else◌, refl, sym, ap, subst, ◌∙◌, inl, inr, arith}
+use Rattle.std.proofs.Common.{◌≡◌, ◌≢◌, ℕ, ◌+◌, ◌≤◌, ◌⊎◌, List, [], ◌∷◌, ◌++◌, Bool, true, false, ◌||◌, ◌==◌, Option, Some, None, IfSome, MatchOption, Bor, Vec, Global, vec_len, bytes_eq, codes, length, if◌then◌else◌, refl, sym, ap, subst, ◌∙◌, inl, inr, arith}
 use Rattle.std.proofs.lemmas.Bool.{and_parts, or_cases, both_ways, cond-true, cond-false, false≢true}
 use Rattle.std.proofs.lemmas.List.{length-map}
 use Rattle.std.proofs.lemmas.Option.{none-some, same_Some}
 use Rattle.std.proofs.lemmas.Slice.Eq.{bytes_eq-Decides}
 use Rattle.wblock_calls.specs.Words.{texts}
-use Rattle.wblock_line.specs.Words.{Choice, Line, is_option, split, with_front}
+use Rattle.wblock_line.specs.Words.{Choice, Line, choices, is_option, split, with_front}
 use Rattle.wblock_blocks.specs.declared.mine.Mining.{Mining}
 use Rattle.wblock_blocks.specs.declared.validate.Validation.{Validation}
 use Rattle.wblock_call.specs.declared.called.Calling.{Calling}
@@ -44,7 +44,7 @@ tails v w vs ws e = cc
 
 -- lines of different first words are different
 differ : (v w : List ℕ) (vs ws : List (List ℕ)) → bytes_eq v w ≡ false → v ∷ vs ≡ w ∷ ws → ⊥
-differ v w vs ws no e = both_ways (bytes_eq v w) no ((bytes_eq-Decides v w).1 (heads v w vs ws e))
+differ v w vs ws never e = both_ways (bytes_eq v w) never ((bytes_eq-Decides v w).1 (heads v w vs ws e))
 
 -- ---- the program's line
 
@@ -169,6 +169,15 @@ nothing_own line save digest quit (Save file) is = save file.now is.0 is.1
 nothing_own line save digest quit Digest is = digest is.0 is.1
 nothing_own line save digest quit Quit is = quit is.0 is.1
 
+-- a line that has options
+pub has_options : (os : Vec (Bor (List ℕ) × Bor (List ℕ)) Global) (b : Bool) → b ≡ (vec_len os == 0) → b ≡ false → choices os.items ≡ [] → ⊥
+has_options os b is e none =
+    let size = os.ok.0 in
+    let count = length-map os.items (λ (o : Bor (List ℕ) × Bor (List ℕ)). (o.0.now, o.1.now)) in
+    let zeros = ap (λ (cs : List Choice). length cs) none in
+    let empty : vec_len os ≡ 0 = omega (arith, size, count, zeros) in
+    let wrong : (0 == 0) ≡ false = subst (λ (n : ℕ). (n == 0) ≡ false) empty (sym is ∙ e) in absurd cc
+
 -- ---- calls behind a line that deploys
 
 abbrev BeginsWith : List ℕ → Line → Type 0
@@ -181,14 +190,14 @@ fronted w (Some l) line e = (l.words, sym (ap (λ (x : Line). x.words) (same_Som
 -- a first word that is no option stays the first
 split_head : (w : List ℕ) (ws : List (List ℕ)) (line : Line) → is_option w ≡ false → split (w ∷ ws) ≡ Some line → BeginsWith w line
 unfolding split
-split_head w [] line no e = ([], sym (ap (λ (x : Line). x.words) (same_Some _ _ (sym (cond-false (is_option w) _ _ no) ∙ e))))
-split_head w (v ∷ ws) line no e = fronted w (split (v ∷ ws)) line (sym (cond-false (is_option w) _ _ no) ∙ e)
+split_head w [] line never e = ([], sym (ap (λ (x : Line). x.words) (same_Some _ _ (sym (cond-false (is_option w) _ _ never) ∙ e))))
+split_head w (v ∷ ws) line never e = fronted w (split (v ∷ ws)) line (sym (cond-false (is_option w) _ _ never) ∙ e)
 
 no_deploying : (name : List ℕ) (line : Line) (task : Deploying) (command : List ℕ) (rest : List (List ℕ)) → is_option command ≡ false → bytes_eq command (codes "deploy") ≡ false → split (command ∷ rest) ≡ Some line → AsksDeploy (single_line name line) task → ⊥
-no_deploying name line task command rest word no e asks =
+no_deploying name line task command rest word never e asks =
     let begins = split_head command rest line word e in
     let is = world_second name line.words (codes "deploy") task.world.now (texts task.modules.now) asks.names.words_are in
-    differ command (codes "deploy") begins.0 is.others no (sym begins.1 ∙ is.words_are)
+    differ command (codes "deploy") begins.0 is.others never (sym begins.1 ∙ is.words_are)
 
 begins_else : (name : List ℕ) (line : Line) (task : Deploying) (w : List ℕ) (others : List (List ℕ)) → (bytes_eq w (codes "mine") ≡ true) ⊎ (bytes_eq w (codes "validate") ≡ true) → split (w ∷ others) ≡ Some line → AsksDeploy (single_line name line) task → ⊥
 begins_else name line task w others (inl t) e asks = no_deploying name line task (codes "mine") others refl refl (subst (λ (v : List ℕ). split (v ∷ others) ≡ Some line) ((bytes_eq-Decides w (codes "mine")).0 t) e) asks
@@ -255,13 +264,13 @@ over_begins line (Show task) asks over = absurd over
 
 -- words that begin otherwise are none of theirs
 begins_not : (words shown : List (List ℕ)) → begins_over words ≡ true → words ≡ shown → begins_over shown ≡ false → ⊥
-begins_not words shown begins same no = both_ways (begins_over shown) no (sym (ap begins_over same) ∙ begins)
+begins_not words shown begins same never = both_ways (begins_over shown) never (sym (ap begins_over same) ∙ begins)
 
 block_of : (words : List (List ℕ)) (w a b c : List ℕ) (rest : List (List ℕ)) (v x y z : List ℕ) (others : List (List ℕ)) → words ≡ w ∷ a ∷ b ∷ c ∷ rest → words ≡ v ∷ x ∷ y ∷ z ∷ others → c ≡ z
 block_of words w a b c rest v x y z others e f = let same : w ∷ a ∷ b ∷ c ∷ rest ≡ v ∷ x ∷ y ∷ z ∷ others = sym e ∙ f in cc
 
 other_first : (words : List (List ℕ)) (w v : List ℕ) (ws vs : List (List ℕ)) → words ≡ w ∷ ws → words ≡ v ∷ vs → bytes_eq w v ≡ false → ⊥
-other_first words w v ws vs e f no = differ w v ws vs no (sym e ∙ f)
+other_first words w v ws vs e f never = differ w v ws vs never (sym e ∙ f)
 
 mine_alike : (line : Line) (task : Mining) (d : Command) → AsksMine line task → IsLineOf line d → IsOverWorld d → task.block.now ≢ calls_here
 mine_alike line task Stored is asks over = absurd over
@@ -335,7 +344,7 @@ pub no_line : (name : List ℕ) (line single : Line) → single ≡ single_line 
 no_line name line single same own none = nothing_asked name line own (λ c asks over. none c (subst (λ (l : Line). IsLineOf l c) (sym same) asks))
 
 pub other_line : (name : List ℕ) (line single : Line) (c : Command) → single ≡ single_line name line → ((c : SessionCommand) → IsOwn line c → ⊥) → IsLineOf single c → (IsOverWorld c → ⊥) → (d : SessionCommand) → IsAsked name line d → ⊥
-other_line name line single c same own is no = nothing_asked name line own (λ d asks over. no (over_alike single c d is (subst (λ (l : Line). IsLineOf l d) (sym same) asks) over))
+other_line name line single c same own is never = nothing_asked name line own (λ d asks over. never (over_alike single c d is (subst (λ (l : Line). IsLineOf l d) (sym same) asks) over))
 
 -- ---- `quit`
 
@@ -367,5 +376,5 @@ pub no_chain : (words : List (List ℕ)) → None ≡ split words → (world : L
 no_chain words e world asks = none-some asks.line (e ∙ asks.is_split)
 
 pub asks_chain : (words : List (List ℕ)) (line : Line) (found : Option (Bor (List ℕ))) → Some line ≡ split words → MatchOption found ((world : List ℕ) → ¬ IsChain line world) (λ world. IsChain line world.now) → MatchOption found ((world : List ℕ) → ¬ AsksChain words world) (λ world. AsksChain words world.now)
-asks_chain words line None e no = λ world asks. no world (subst (λ (l : Line). IsChain l world) (same_Some asks.line line (sym asks.is_split ∙ sym e)) asks.is)
+asks_chain words line None e never = λ world asks. never world (subst (λ (l : Line). IsChain l world) (same_Some asks.line line (sym asks.is_split ∙ sym e)) asks.is)
 asks_chain words line (Some w) e is = record { line = line; is_split = sym e; is = is }

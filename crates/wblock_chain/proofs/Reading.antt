@@ -90,7 +90,7 @@ not_empty b line is e none =
     let size = line.ok.0 in
     let count = ap (λ (bytes : List ℕ). length bytes) none in
     let zeros : vec_len line ≡ 0 = omega (arith, size, count) in
-    let no : (0 == 0) ≡ false = subst (λ (n : ℕ). (n == 0) ≡ false) zeros (sym is ∙ e) in cc
+    let never : (0 == 0) ≡ false = subst (λ (n : ℕ). (n == 0) ≡ false) zeros (sym is ∙ e) in cc
 
 -- an empty line ends the calls
 ended_at : (calls : List (List ℕ)) (line : List ℕ) (old mid new : List (List ℕ)) → old ≡ calls ++ mid → mid ≡ line ∷ new → line ≡ [] → old ≡ calls ++ [] ∷ new
@@ -107,7 +107,7 @@ never_ended fits text old mid new are m none = (subst AreFull (sym (are.lines_ar
 -- ---- a line and the calls behind it
 
 pub asks_none : (line : List ℕ) (old new : List (List ℕ)) → ¬ AsksCalls line → old ≡ line ∷ new → IsAskedLine line None old new
-asks_none line old new no e = record { lines_are = e; full = tt; asked = (λ some. absurd (false≢true some), λ asks. absurd (no asks)) }
+asks_none line old new never e = record { lines_are = e; full = tt; asked = (λ some. absurd (false≢true some), λ asks. absurd (never asks)) }
 
 asks_some : (line : List ℕ) (calls old mid new : List (List ℕ)) → AsksCalls line → old ≡ line ∷ mid → mid ≡ calls ++ [] ∷ new → AreFull calls → IsAskedLine line (Some calls) old new
 asks_some line calls old mid new asks e m full = record {
@@ -123,10 +123,10 @@ pub read_long : (line : List ℕ) (old new : List (List ℕ)) → old ≡ line �
 read_long line old new e long = (line, None, asks_none line old new (λ asks. let short = asks.short in absurd (omega (arith, short, long))) e, inl long)
 
 pub read_no_text : (line : List ℕ) (old new : List (List ℕ)) → old ≡ line ∷ new → ¬ IsUtf8 line → IsRequest old (Some NotUtf8) new
-read_no_text line old new e no = (line, asks_none line old new (λ asks. no asks.utf8) e, no)
+read_no_text line old new e never = (line, asks_none line old new (λ asks. never asks.utf8) e, never)
 
 pub read_text : (line : String Global) (old new : List (List ℕ)) → old ≡ string_bytes line ∷ new → length (string_bytes line) ≤ 1048576 → ¬ AsksCalls (string_bytes line) → IsRequest old (Some (Text line None)) new
-read_text line old new e short no = (None, asks_none (string_bytes line) old new no e, short, tt, refl)
+read_text line old new e short never = (None, asks_none (string_bytes line) old new never e, short, tt, refl)
 
 pub read_asking : (line : String Global) (text : Vec ℕ Global) (old mid new : List (List ℕ)) → old ≡ string_bytes line ∷ mid → length (string_bytes line) ≤ 1048576 → AsksCalls (string_bytes line) → IsCallsRead mid (read.Text text) new → IsRequest old (Some (Text line (Some text))) new
 read_asking line text old mid new e short asks is = (Some is.0, asks_some (string_bytes line) is.0 old mid new asks e is.1 is.2, short, is.3, is.4)
@@ -153,16 +153,16 @@ text_line text line lent asks old mid bytes same found is = record {
 }
 
 does_ask : (text : String Global) (asks : Bool) (old mid : List (List ℕ)) → IsTextLine text asks old mid → asks ≡ true → AsksCalls (string_bytes text)
-does_ask text asks old mid line yes = record { utf8 = IsUtf8-string_bytes text; short = line.short; takes = sym line.asks_is ∙ yes }
+does_ask text asks old mid line sure = record { utf8 = IsUtf8-string_bytes text; short = line.short; takes = sym line.asks_is ∙ sure }
 
 pub text_alone : (text : String Global) (asks : Bool) (old mid : List (List ℕ)) → IsTextLine text asks old mid → asks ≡ false → IsRequest old (Some (Text text None)) mid
-text_alone text asks old mid line no = read_text text old mid line.lines_are line.short (λ does. both_ways asks no (line.asks_is ∙ does.takes))
+text_alone text asks old mid line never = read_text text old mid line.lines_are line.short (λ does. both_ways asks never (line.asks_is ∙ does.takes))
 
 pub text_asking : (text : String Global) (calls : Vec ℕ Global) (asks : Bool) (old mid new : List (List ℕ)) → IsTextLine text asks old mid → asks ≡ true → IsCallsRead mid (read.Text calls) new → IsRequest old (Some (Text text (Some calls))) new
-text_asking text calls asks old mid new line yes is = read_asking text calls old mid new line.lines_are line.short (does_ask text asks old mid line yes) is
+text_asking text calls asks old mid new line sure is = read_asking text calls old mid new line.lines_are line.short (does_ask text asks old mid line sure) is
 
 pub text_too_long : (text : String Global) (asks : Bool) (old mid new : List (List ℕ)) → IsTextLine text asks old mid → asks ≡ true → IsCallsRead mid read.TooLong new → IsRequest old (Some TooLong) new
-text_too_long text asks old mid new line yes is = read_too_long (string_bytes text) old mid new line.lines_are (does_ask text asks old mid line yes) is
+text_too_long text asks old mid new line sure is = read_too_long (string_bytes text) old mid new line.lines_are (does_ask text asks old mid line sure) is
 
 pub text_unended : (text : String Global) (asks : Bool) (old mid new : List (List ℕ)) → IsTextLine text asks old mid → asks ≡ true → IsCallsRead mid read.Unfinished new → IsRequest old None new
-text_unended text asks old mid new line yes is = read_unended (string_bytes text) old mid new line.lines_are (does_ask text asks old mid line yes) is
+text_unended text asks old mid new line sure is = read_unended (string_bytes text) old mid new line.lines_are (does_ask text asks old mid line sure) is

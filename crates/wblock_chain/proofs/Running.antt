@@ -83,12 +83,12 @@ run_push name es lines mid rest start old files w a are run n = record {
 }
 
 open_push : (name : List ℕ) (es : List Exchange) (e : Exchange) → AreOpen name es → (IsQuit name e → ⊥) → AreOpen name (es ++ e ∷ [])
-open_push name [] e are no = (no, tt)
-open_push name (f ∷ es) e are no = (are.0, open_push name es e are.1 no)
+open_push name [] e are never = (never, tt)
+open_push name (f ∷ es) e are never = (are.0, open_push name es e are.1 never)
 
 -- a session that goes on was not asked to end
 goes_on : (name : List ℕ) (mid rest : List (List ℕ)) (old files : Holding) (w : World) (a : Answered) (n : Next name mid rest old files w a) → a.quits ≡ false → IsQuit name n.exchange → ⊥
-goes_on name mid rest old files w a n no is = both_ways a.quits no (n.quits.1 is)
+goes_on name mid rest old files w a n never is = both_ways a.quits never (n.quits.1 is)
 
 told_push : (es : List Exchange) (e : Exchange) (before after later bytes : List ℕ) → after ≡ before ++ flat_map reply_in es → bytes ≡ reply_in e → later ≡ after ++ bytes → later ≡ before ++ flat_map reply_in (es ++ e ∷ [])
 told_push es e before after later bytes told is more = more ∙ (ap (λ (b : List ℕ). after ++ b) is ∙ (ap (λ (b : List ℕ). b ++ reply_in e) told ∙ flat_map_more reply_in before es e))

@@ -91,7 +91,8 @@ pub(crate) fn digest_line_of(alloc: Global, digest: [u8; 32]) -> Result<String, 
 fn saved_line_of(alloc: Global, count: usize) -> Result<String, AllocError>
     ensures { IfOk result (λ line. string_bytes line ≡ saved_line count) }
 {
-    format!(in alloc; "saved {count} bytes\n")
+    let line = format!(in alloc; "saved {count} bytes\n")?;
+    Ok(line)
 }
 
 /// The answer where these bytes were saved.

@@ -1,10 +1,12 @@
 use Rattle.std.proofs.Common.{rules, ◌≡◌, [], ◌∷◌, List, ℕ, codes}
 use Rattle.wblock_line.specs.Words.{line_of}
-use Rattle.wblock_chain.proofs.Asking.{nothing_own}
+use Rattle.wblock_chain.proofs.Asking.{has_options, nothing_own}
 use Rattle.wblock_chain.proofs.asked.own_command_of.Goals as goal
 
 pub returns-then-not-is_empty : goal.returns-then-not-is_empty
-returns-then-not-is_empty c = nothing_own (line_of c.args.line.now) (λ file words options. search rules) (λ words options. search rules) (λ words options. search rules)
+returns-then-not-is_empty c =
+    let some = has_options c.args.line.now.options c.is_empty.result c.is_empty.ensures c.if-not-is_empty.true in
+    nothing_own (line_of c.args.line.now) (λ file words options. some options) (λ words options. some options) (λ words options. some options)
 
 pub returns-in-None : goal.returns-in-None
 returns-in-None c =

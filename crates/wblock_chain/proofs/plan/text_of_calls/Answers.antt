@@ -11,7 +11,7 @@ texts_of behind = option_map (λ b. b.items) behind
 
 pub returns-then-not-is_word-clause-text : goal.returns-then-not-is_word-clause-text
 returns-then-not-is_word-clause-text g c = IfOk-weaker c.read_file.result _ _ (λ text held t.
-    at_other c.args._name.now (world_view c.args._world.now) (texts_of c.args.behind) (g.F.Files.holds c.args.files.now) c.args.calls.now c.requires (λ e. let no : false ≡ true = c.if-not-is_word.ensures.1 e in absurd cc) ∙ held t) c.read_file.ensures.bytes
+    at_other c.args._name.now (world_view c.args._world.now) (texts_of c.args.behind) (g.F.Files.holds c.args.files.now) c.args.calls.now c.requires (λ e. let never : false ≡ true = c.if-not-is_word.ensures.1 e in absurd cc) ∙ held t) c.read_file.ensures.bytes
 
 pub returns-in-Some-clause-text : goal.returns-in-Some-clause-text
 returns-in-Some-clause-text g c = λ t.

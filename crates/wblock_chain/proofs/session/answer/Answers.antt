@@ -22,7 +22,7 @@ pub returns-in-TooLong-clause-kept : goal.returns-in-TooLong-clause-kept
 returns-in-TooLong-clause-kept g c = on_err c.refuse_line.result _ (λ t. refl)
 
 pub returns-in-NotUtf8-clause-answer : goal.returns-in-NotUtf8-clause-answer
-returns-in-NotUtf8-clause-answer g c = rw c.in-NotUtf8.is (IfOk-weaker c.refuse_line-in-NotUtf8.result _ _ (λ a reply t line no. asks_nothing c.args.name.now line None (g.F.Files.holds c.args.files.now) (g.F.Files.holds c.args.files.now) (world_view c.args.world) a refl reply (inr (λ asked asks. no asks.utf8))) c.refuse_line-in-NotUtf8.ensures)
+returns-in-NotUtf8-clause-answer g c = rw c.in-NotUtf8.is (IfOk-weaker c.refuse_line-in-NotUtf8.result _ _ (λ a reply t line never. asks_nothing c.args.name.now line None (g.F.Files.holds c.args.files.now) (g.F.Files.holds c.args.files.now) (world_view c.args.world) a refl reply (inr (λ asked asks. never asks.utf8))) c.refuse_line-in-NotUtf8.ensures)
 
 pub returns-in-NotUtf8-clause-kept : goal.returns-in-NotUtf8-clause-kept
 returns-in-NotUtf8-clause-kept g c = on_err c.refuse_line-in-NotUtf8.result _ (λ t. refl)

@@ -10,9 +10,9 @@ returns-in-Ok-clause-refused g c = λ r t.
     (c.in-Ok.ensures.0, c.tell_refused.ensures.refused r t ∙ ap (λ (b : List ℕ). g.O.Sink.told c.args.out.now ++ b) is)
 
 pub returns-in-Ok-clause-told : goal.returns-in-Ok-clause-told
-returns-in-Ok-clause-told g c = λ no t.
+returns-in-Ok-clause-told g c = λ never t.
     let is = c.as_slice.ensures.value ∙ c.in-Ok.ensures.1 in
-    (c.args.line.now, c.in-Ok.ensures.0, status.Refused, subst (λ (b : List ℕ). IsToldInPart b (g.O.Sink.told c.args.out.now) (g.O.Sink.told c.tell_refused.new.out)) is (c.tell_refused.ensures.told no t))
+    (c.args.line.now, c.in-Ok.ensures.0, status.Refused, subst (λ (b : List ℕ). IsToldInPart b (g.O.Sink.told c.args.out.now) (g.O.Sink.told c.tell_refused.new.out)) is (c.tell_refused.ensures.told never t))
 
 pub returns-in-Err-clause-told : goal.returns-in-Err-clause-told
-returns-in-Err-clause-told g c = λ no t. ([], memory_line, status.Memory, c.end_for_memory.ensures.told t)
+returns-in-Err-clause-told g c = λ never t. ([], memory_line, status.Memory, c.end_for_memory.ensures.told t)

@@ -21,4 +21,4 @@ returns-in-Done c =
 pub unreachable-requires : goal.unreachable-requires
 unreachable-requires c =
     let done = rw c.in-Refused.is at c.in_ok-extend.ensures.done in
-    let no : status.Refused ≡ status.Done = done.status_is in absurd cc
+    let never : status.Refused ≡ status.Done = done.status_is in absurd cc

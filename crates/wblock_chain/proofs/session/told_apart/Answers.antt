@@ -9,7 +9,7 @@ pub returns-then-not-is_told : goal.returns-then-not-is_told
 returns-then-not-is_told c = (
   refl,
   λ told.
-      let no : false ≡ true = c.if-not-is_told.ensures.1 (subst (λ (ws : List Write). IsTold (map write_of ws)) (sym c.as_slice.ensures.value) told) in
+      let never : false ≡ true = c.if-not-is_told.ensures.1 (subst (λ (ws : List Write). IsTold (map write_of ws)) (sym c.as_slice.ensures.value) told) in
       absurd cc,
 )
 
