@@ -4,12 +4,13 @@ use Rattle.hex.specs.Hex.{encode_lower}
 use Rattle.wblock_line.specs.declared.perform.Status.{Status}
 use Rattle.wblock_line.specs.declared.perform.Status.TheVariants as status
 
-abbrev pub number_of : Status → ℕ
-number_of status.Done = 0
-number_of status.Refused = 1
-number_of status.Usage = 2
-number_of status.File = 3
-number_of status.Memory = 4
+-- the digit of a status
+abbrev pub digit_of : Status → List ℕ
+digit_of status.Done = codes "0"
+digit_of status.Refused = codes "1"
+digit_of status.Usage = codes "2"
+digit_of status.File = codes "3"
+digit_of status.Memory = codes "4"
 
 -- `# ` at the start of a line
 abbrev pub mark : (start : Bool) → List ℕ
@@ -23,7 +24,7 @@ marked start (c ∷ cs) = mark start ++ c ∷ marked (c == 10) cs
 
 -- `status N`, which ends each answer
 abbrev pub status_line : Status → List ℕ
-status_line s = codes "status " ++ decimal (number_of s) ++ 10 ∷ []
+status_line s = codes "status " ++ digit_of s ++ 10 ∷ []
 
 -- what the command prints, then what it says on standard error, then its status
 abbrev pub reply : (text said : List ℕ) → Status → List ℕ

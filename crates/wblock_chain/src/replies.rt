@@ -1,21 +1,21 @@
 //! What a session answers to a line, exactly.
 
 ghost use Rattle.std.specs.Prelude.{◌≡◌, ◌++◌, ◌∷◌, [], true, IfOk, OnOk, length, option_map, string_bytes};
-ghost use Rattle.wblock_chain.specs.Replies.{block_line, digest_line, mark, marked, number_of, reply, saved_line};
+ghost use Rattle.wblock_chain.specs.Replies.{block_line, digest_line, digit_of, mark, marked, reply, saved_line};
 
 use std::alloc::{AllocError, Global};
 use wblock_line::Status;
 
-/// The number of a status.
-fn number_of(status: Status) -> u8
-    ensures { result ≡ number_of status }
+/// The digit of a status.
+fn digit_of(status: Status) -> &'static str
+    ensures { result.now ≡ digit_of status }
 {
     match status {
-        Status::Done => 0,
-        Status::Refused => 1,
-        Status::Usage => 2,
-        Status::File => 3,
-        Status::Memory => 4,
+        Status::Done => "0",
+        Status::Refused => "1",
+        Status::Usage => "2",
+        Status::File => "3",
+        Status::Memory => "4",
     }
 }
 
@@ -57,8 +57,8 @@ pub fn reply_of(
 ) -> Result<Vec<u8>, AllocError>
     ensures { IfOk result (λ bytes. bytes.items ≡ reply text.now said.now status) }
 {
-    let number = number_of(status);
-    let end = format!(in alloc; "status {number}\n")?;
+    let digit = digit_of(status);
+    let end = format!(in alloc; "status {digit}\n")?;
     let mut out = Vec::new(alloc);
     out.extend_from_slice(text.as_bytes())?;
     append_marked(&mut out, said)?;
