@@ -25,7 +25,7 @@ returns-in-Ok-clause-plan g c = λ t.
     let few : vec_len c.in-Ok-Ok.calls ≤ 65535 = rw c.in-Ok-Ok.field-0-is at c.in-Ok-Ok.ensures.few in
     let count = c.in-Ok-Ok.calls.ok.0 in
     mined c.args._name.now w (option_map (λ b. b.items) c.args.behind) (g.F.Files.holds c.args.files.now) c.args.task text calls (leaving c.in-Ok.transition) c.is_spelled.ensures c.requires.over (c.in_ok-text.ensures.text t) read (omega (arith, few, count))
-    (subst (λ (cs : List Call). MinesOver w cs c.args.task (leaving c.in-Ok.transition)) c.as_slice-2.ensures.value c.in-Ok.ensures.mines)
+    (subst (λ (cs : List Call). MinesOver w cs c.args.task (leaving c.in-Ok.transition)) c.as_slice-in-Ok-Ok.ensures.value c.in-Ok.ensures.mines)
 
 pub returns-in-Ok-clause-beside : goal.returns-in-Ok-clause-beside
 returns-in-Ok-clause-beside g c = fits (Mine c.args.task) c.in-Ok.transition 1 (omega arith) c.in-Ok.ensures.beside

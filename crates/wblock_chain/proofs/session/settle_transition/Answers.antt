@@ -16,7 +16,7 @@ returns-in-Refused-clause-settles g c =
     rw c.in-Refused.is
     (IfOk-weaker c.answer_with.result _ _ (λ a moves t. (
       refl,
-      moved (world_view c.args.world) c.as_str-2.result.now (string_bytes c.in-Refused.line) c.as_str-3.result.now (string_bytes c.in-Refused.why ++ 10 ∷ []) status.Refused a c.as_str-2.ensures.value (c.as_str-3.ensures.value ∙ (c.in_ok-said.ensures ∙ ap (λ (b : List ℕ). b ++ 10 ∷ []) c.as_str.ensures.value)) moves,
+      moved (world_view c.args.world) c.as_str-in-Refused.result.now (string_bytes c.in-Refused.line) c.as_str-in-Refused-2.result.now (string_bytes c.in-Refused.why ++ 10 ∷ []) status.Refused a c.as_str-in-Refused.ensures.value (c.as_str-in-Refused-2.ensures.value ∙ (c.in_ok-said.ensures ∙ ap (λ (b : List ℕ). b ++ 10 ∷ []) c.as_str.ensures.value)) moves,
     )) c.answer_with.ensures)
 
 pub returns-in-Refused-clause-kept : goal.returns-in-Refused-clause-kept
