@@ -23,7 +23,7 @@ returns-in-Ok-None-clause-done g c = λ d f l o.
     let files = g.F.Files.holds c.loop.files in
     let before = g.O.Sink.told c.args.out.now in
     let after = g.O.Sink.told c.loop.out in
-    let rest = g.L.Lines.coming c.next_request-request.new.lines in
+    let rest = g.L.Lines.coming c.next_request.new.lines in
     let is = subst (λ (r : Option Request). IsRequest mid r rest) c.in-Ok-None.field-0-is (c.in-Ok-None.ensures.read l) in
     ended name w last all mid rest old files before after (c.loop.invariant.far f l o) is
 
@@ -70,7 +70,7 @@ returns-in_default-clause-stopped g c = λ e f l o.
     let files = g.F.Files.holds c.loop.files in
     let before = g.O.Sink.told c.args.out.now in
     let after = g.O.Sink.told c.loop.out in
-    stopped_with name w last all mid old files (g.F.Files.holds c.answer-answered.new.files) memory_line status.Memory c.end_for_memory.result before after (g.O.Sink.told c.end_for_memory.new.out) (c.loop.invariant.far f l o) (c.in_default.ensures.kept f) c.end_for_memory.ensures.status (c.end_for_memory.ensures.told o)
+    stopped_with name w last all mid old files (g.F.Files.holds c.answer.new.files) memory_line status.Memory c.end_for_memory.result before after (g.O.Sink.told c.end_for_memory.new.out) (c.loop.invariant.far f l o) (c.in_default.ensures.kept f) c.end_for_memory.ensures.status (c.end_for_memory.ensures.told o)
 
 pub returns-in_default-clause-memory_said : goal.returns-in_default-clause-memory_said
 returns-in_default-clause-memory_said g c = λ m t. subst (λ e. IsSaid memory_line (g.E.Sink.told e) (g.E.Sink.told c.end_for_memory.new.err) (g.E.Sink.failures e) (g.E.Sink.failures c.end_for_memory.new.err)) c.loop.invariant.quiet (c.end_for_memory.ensures.said t)
@@ -87,9 +87,9 @@ returns-in-Err-clause-stopped g c = λ e f l o.
     let files = g.F.Files.holds c.loop.files in
     let before = g.O.Sink.told c.args.out.now in
     let after = g.O.Sink.told c.loop.out in
-    let rest = g.L.Lines.coming c.next_request-request.new.lines in
+    let rest = g.L.Lines.coming c.next_request.new.lines in
     let is = subst (λ (r : Option Request). IsRequest mid r rest) c.in-Ok-Some.field-0-is (c.in-Ok-Some.ensures.read l) in
-    let new = g.F.Files.holds c.answer-answered.new.files in
+    let new = g.F.Files.holds c.answer.new.files in
     let a = c.in-Ok.answered in
     let n = next name c.in-Ok-Some.request mid rest files new last a is (c.in-Ok.ensures.answer f) in
     let later = g.O.Sink.told c.put_all.new.sink in
@@ -107,9 +107,9 @@ returns-then-quits-clause-done g c = λ d f l o.
     let files = g.F.Files.holds c.loop.files in
     let before = g.O.Sink.told c.args.out.now in
     let after = g.O.Sink.told c.loop.out in
-    let rest = g.L.Lines.coming c.next_request-request.new.lines in
+    let rest = g.L.Lines.coming c.next_request.new.lines in
     let is = subst (λ (r : Option Request). IsRequest mid r rest) c.in-Ok-Some.field-0-is (c.in-Ok-Some.ensures.read l) in
-    let new = g.F.Files.holds c.answer-answered.new.files in
+    let new = g.F.Files.holds c.answer.new.files in
     let a = c.in-Ok.answered in
     let n = next name c.in-Ok-Some.request mid rest files new last a is (c.in-Ok.ensures.answer f) in
     let later = g.O.Sink.told c.put_all.new.sink in
@@ -128,9 +128,9 @@ loop-preserved g c = record {
       let files = g.F.Files.holds c.loop.files in
       let before = g.O.Sink.told c.args.out.now in
       let after = g.O.Sink.told c.loop.out in
-      let rest = g.L.Lines.coming c.next_request-request.new.lines in
+      let rest = g.L.Lines.coming c.next_request.new.lines in
       let is = subst (λ (r : Option Request). IsRequest mid r rest) c.in-Ok-Some.field-0-is (c.in-Ok-Some.ensures.read l) in
-      let new = g.F.Files.holds c.answer-answered.new.files in
+      let new = g.F.Files.holds c.answer.new.files in
       let a = c.in-Ok.answered in
       let n = next name c.in-Ok-Some.request mid rest files new last a is (c.in-Ok.ensures.answer f) in
       let later = g.O.Sink.told c.put_all.new.sink in
