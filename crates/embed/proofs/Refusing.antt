@@ -1,5 +1,5 @@
 -- What a refusal tells follows from what was found.
-use Rattle.std.proofs.Common.{◌≡◌, ◌⊎◌, ⊎_elim, ℕ, List, Option, Some, None, sym}
+use Rattle.std.proofs.Common.{◌≡◌, ◌⊎◌, ⊎_elim, ℕ, List, Option, Some, None, false, inl, inr, sym}
 use Rattle.std.proofs.lemmas.Option.{same_Some}
 use Rattle.spec_block.specs.Worlds.{Block}
 use Rattle.spec_block.specs.Bytes.{SpellsBlock}
@@ -12,7 +12,10 @@ use Rattle.text_resolve.specs.Refused.{Unless}
 use Rattle.text_resolve.specs.declared.refusal.AsmRefusal.{AsmRefusal}
 use Rattle.text_resolve.specs.declared.refusal.AsmRefusal.TheVariants as of_text
 use Rattle.wblock_modules.specs.Assembles.{told}
-use Rattle.embed.specs.Refusals.{IfRefused, RefusesBlock, RefusesWorld, block_refusal, world_refusal}
+use Rattle.wblock_modules.specs.Texts.{IsFound}
+use Rattle.wblock_modules.specs.declared.text.Found.{Found}
+use Rattle.wblock_modules.specs.declared.text.Found.TheVariants as found
+use Rattle.embed.specs.Refusals.{IfRefused, IsUnwritten, RefusesBlock, RefusesWorld, RefusesWriting, block_refusal, world_refusal}
 use Rattle.embed.specs.declared.failure.Refusal.{Refusal}
 use Rattle.embed.specs.declared.failure.Failure.{Failure}
 use Rattle.embed.specs.declared.failure.Failure.TheVariants as failure
@@ -42,3 +45,9 @@ unless_told P (of_text.UnknownName at) n p is = p
 unless_told P (of_text.RepeatedName at) n p is = p
 unless_told P (of_text.NumberRange at) n p is = p
 unless_told P (of_text.TooLarge limit) n p is = p
+
+-- what was found of a module is no text
+pub unwritten : (bytes : List ℕ) (f : Found) (r : Refusal) → IsFound false bytes f → IsUnwritten f r → RefusesWriting bytes r
+unwritten bytes (found.Text text) r is none = absurd none
+unwritten bytes found.TooLong r is none = inr (is, inl none)
+unwritten bytes found.Unwritten r is none = inr (is, inr none)

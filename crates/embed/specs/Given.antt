@@ -13,7 +13,7 @@ use Rattle.spec_block.specs.Worlds.{World, Call, Block, Contract, limits, order_
 use Rattle.spec_block.specs.Bytes.{world_bytes, block_bytes}
 use Rattle.spec_block.specs.Headline.{Headline}
 use Rattle.spec_block.specs.Serial.{Executed}
-use Rattle.spec_block.specs.Verdicts.{Accept, IsVerdictOf}
+use Rattle.spec_block.specs.Verdicts.{Accept, IsVerdictOf, Verdict}
 use Rattle.wblock_line.specs.Modules.{IsContractOf}
 use Rattle.wblock_modules.specs.Deploys.{IsEmpty, extended}
 use Rattle.embed.specs.Refusals.{HasWorld, HasCalls}
@@ -49,6 +49,11 @@ pub record IsMined (w : World) (cs : List Call) (fuel : ℕ) (block next : List 
 
 abbrev pub Mines : (world text : List ℕ) → (fuel : ℕ) → (block next : List ℕ) → Type 0
 Mines world text fuel block next = HasWorld world (λ w. HasCalls text (λ cs. IsMined w cs fuel block next))
+
+-- the verdict accepts, and these are the bytes of the world that it leaves
+abbrev pub Leaves : Verdict → (next : List ℕ) → Type 0
+Leaves (Accept after) next = next ≡ world_bytes after
+Leaves _ next = ⊥
 
 -- the block is accepted, and these are the bytes of the world after it
 pub record IsAccepted (w : World) (cs : List Call) (fuel : ℕ) (block next : List ℕ) : Type 0 where

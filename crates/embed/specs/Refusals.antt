@@ -22,6 +22,8 @@ use Rattle.text_resolve.specs.declared.refusal.AsmRefusal.{AsmRefusal}
 use Rattle.assembler.specs.Named as naming
 use Rattle.wblock_modules.specs.Assembles.{told}
 use Rattle.wblock_modules.specs.Texts.{SpellsOne}
+use Rattle.wblock_modules.specs.declared.text.Found.{Found}
+use Rattle.wblock_modules.specs.declared.text.Found.TheVariants as found
 use Rattle.embed.specs.declared.failure.Subject.{Subject}
 use Rattle.embed.specs.declared.failure.Subject.TheVariants.{Load, Check, Deploy, Assemble, Text, World as OfWorld, Calls as OfCalls, Block as OfBlock}
 use Rattle.embed.specs.declared.failure.Refusal.{Refusal}
@@ -99,6 +101,12 @@ pub record RefusesText (text : List ℕ) (r : Refusal) : Type 0 where
   pub why : naming.IsWhy text cause
   pub told_as : IsToldAs cause r
 
+-- a text was not found: it would be too long (1), or what was written does not name the module (2)
+abbrev pub IsUnwritten : Found → Refusal → Type 0
+IsUnwritten (found.Text text) r = ⊥
+IsUnwritten found.TooLong r = r ≡ refusal Text 1 None
+IsUnwritten found.Unwritten r = r ≡ refusal Text 2 None
+
 -- the bytes spell no valid module; or one whose text would be too long (1), or was not found (2)
 abbrev pub RefusesWriting : (bytes : List ℕ) → Refusal → Type 0
 RefusesWriting bytes r = RefusesModule bytes r ⊎ (SpellsOne false bytes × ((r ≡ refusal Text 1 None) ⊎ (r ≡ refusal Text 2 None)))
@@ -120,6 +128,10 @@ RefusesExtending bytes code r = RefusesWorld bytes r ⊎ (HasWorld bytes (IsFull
 -- a world and calls over it
 abbrev pub RefusesInputs : (world : List ℕ) → (text : List ℕ) → Refusal → Type 0
 RefusesInputs bytes text r = RefusesWorld bytes r ⊎ HasWorld bytes (λ _. RefusesCalls text r)
+
+-- the verdict is a reason, and this tells it, with the position or the call that it speaks of
+abbrev pub IsRejection : Verdict → Refusal → Type 0
+IsRejection verdict r = (place verdict < 10) × (r ≡ refusal OfBlock (place verdict) (place_in verdict))
 
 -- the verdict on the block is this reason, with the position or the call that it speaks of
 pub record Rejects (w : World) (cs : List Call) (fuel : ℕ) (block : List ℕ) (r : Refusal) : Type 0 where
@@ -144,6 +156,10 @@ pub record RefusesBlock (bytes : List ℕ) (r : Refusal) : Type 0 where
   pub none : (b : Block) → ¬ SpellsBlock bytes b
   pub told_is : r ≡ refusal OfBlock 1 None
 
+-- the list has no call of this number
+abbrev pub LacksCall : List Call → (number : ℕ) → Refusal → Type 0
+LacksCall cs number r = (length cs ≤ number) × (r ≡ refusal OfCalls 3 (Some (length cs)))
+
 -- the inputs are refused, or there is no call of this number
 abbrev pub RefusesCalled : (world : List ℕ) → (text : List ℕ) → (number : ℕ) → Refusal → Type 0
-RefusesCalled bytes text number r = RefusesInputs bytes text r ⊎ HasWorld bytes (λ _. HasCalls text (λ cs. (length cs ≤ number) × (r ≡ refusal OfCalls 3 (Some (length cs)))))
+RefusesCalled bytes text number r = RefusesInputs bytes text r ⊎ HasWorld bytes (λ _. HasCalls text (λ cs. LacksCall cs number r))

@@ -2,15 +2,15 @@
 
 ghost use Rattle.std.specs.Prelude.{◌≡◌, ◌≤◌, Some, IfOk, IfErr, length};
 ghost use Rattle.spec_block.specs.Bytes.{SpellsBlock};
-ghost use Rattle.spec_block.specs.Verdicts.{place};
+ghost use Rattle.spec_block.specs.Verdicts.{IsVerdictOf};
 ghost use Rattle.block_judge.specs.Judging as judged;
+ghost use Rattle.validator.specs.Judged.{verdict_view};
 ghost use Rattle.world.specs.Views.{world_view};
-ghost use Rattle.embed.specs.Given.{Accepts, IsAccepted, IsMined, Mines};
-ghost use Rattle.embed.specs.declared.failure.Subject.TheVariants as subject;
+ghost use Rattle.embed.specs.Given.{Accepts, IsAccepted, IsMined, Leaves, Mines};
 ghost use Rattle.embed.specs.Refusals as told;
-ghost use Rattle.embed.specs.Refusals.{IfRefused, Rejects, RefusesBlock, RefusesInputs, RefusesVerified};
+ghost use Rattle.embed.specs.Refusals.{IfRefused, IsRejection, Rejects, RefusesBlock, RefusesInputs, RefusesVerified};
 
-use crate::failure::{Failure, Refusal, Subject};
+use crate::failure::{Failure, Subject, refused};
 use crate::inputs::{calls_of, world_of};
 use crate::refusals::block_refusal;
 use block::{Block, BlockRefusal, encode_block, read_block};
@@ -44,10 +44,9 @@ fn mine_over(
     ensures { IfOk result (λ made. IsMined (world_view world.now) calls.now fuel made.block.items made.next.items) }
 {
     let mined = mine_alone(alloc, world, calls, fuel)?;
-    Ok(BlockAndWorld {
-        block: encode_block(alloc, &mined.block)?,
-        next: encode_world(alloc, &mined.world)?,
-    })
+    let block = encode_block(alloc, &mined.block)?;
+    let next = encode_world(alloc, &mined.world)?;
+    Ok(BlockAndWorld { block, next })
 }
 
 /// The block of the calls of a text over a world, in the list's order, with this fuel; and the world after it.
@@ -65,17 +64,55 @@ pub fn mine(alloc: Global, world: &[u8], calls: &[u8], fuel: u64) -> Result<Bloc
     Ok(made)
 }
 
+/// The same place in 64 bits.
+fn widened(place: Option<u32>) -> Option<u64>
+    ensures { result ≡ place }
+{
+    match place {
+        Some(place) => Some(place as u64),
+        None => None,
+    }
+}
+
 /// The failure of a block of these bytes that is rejected for this reason.
 fn reject(alloc: Global, block: &[u8], reason: Reason) -> Failure
-    ensures { IfRefused result (λ r. r ≡ told.refusal subject.Block (place (judged.told reason)) (judged.place_in (judged.told reason))) }
+    ensures { IfRefused result (λ r. IsRejection (judged.told reason) r) }
 {
-    let place = match reason.place() {
-        Some(place) => Some(u64::from(place)),
-        None => None,
-    };
-    Refusal::at(Subject::Block, u32::from(reason.number()), place).with_sentence(reason_words(
-        alloc, block, reason,
-    ))
+    refused(
+        Subject::Block,
+        reason.number() as u32,
+        widened(reason.place()),
+        reason_words(alloc, block, reason),
+    )
+}
+
+/// The verdict on the bytes of a block.
+fn judge(
+    alloc: Global,
+    world: &World,
+    calls: &[Call],
+    fuel: u64,
+    block: &[u8],
+) -> Result<Verdict, NoMemory>
+    requires { length calls.now ≤ 65535 }
+    ensures { IfOk result (λ verdict. IsVerdictOf (world_view world.now) calls.now fuel block.now (verdict_view verdict)) }
+{
+    let Validated { verdict, again: _ } = validate_alone(alloc, world, calls, fuel, block)?;
+    Ok(verdict)
+}
+
+/// The world that a verdict leaves; or the failure of the block of these bytes, where it rejects.
+fn answer_to(alloc: Global, block: &[u8], verdict: Verdict) -> Result<Vec<u8>, Failure>
+    ensures accepted { IfOk result (λ next. Leaves (verdict_view verdict) next.items) }
+    ensures rejected { IfErr result (λ f. IfRefused f (λ r. IsRejection (verdict_view verdict) r)) }
+{
+    match verdict {
+        Verdict::Accept(next) => {
+            let bytes = encode_world(alloc, &next)?;
+            Ok(bytes)
+        }
+        Verdict::Reject(reason) => Err(reject(alloc, block, reason)),
+    }
 }
 
 /// The world after a block of calls over a world, where it is accepted.
@@ -90,14 +127,8 @@ fn verify_over(
     ensures accepted { IfOk result (λ next. IsAccepted (world_view world.now) calls.now fuel block.now next.items) }
     ensures rejected { IfErr result (λ f. IfRefused f (Rejects (world_view world.now) calls.now fuel block.now)) }
 {
-    let Validated { verdict, again: _ } = validate_alone(alloc, world, calls, fuel, block)?;
-    match verdict {
-        Verdict::Accept(next) => {
-            let bytes = encode_world(alloc, &next)?;
-            Ok(bytes)
-        }
-        Verdict::Reject(reason) => Err(reject(alloc, block, reason)),
-    }
+    let verdict = judge(alloc, world, calls, fuel, block)?;
+    answer_to(alloc, block, verdict)
 }
 
 /// The bytes of the world after a block of the calls of a text over a world, with this fuel for the block, where the block is accepted.

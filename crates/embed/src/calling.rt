@@ -1,14 +1,12 @@
 //! One call alone over a world: its receipt, and the cells that it asked for.
 
-ghost use Rattle.std.specs.Prelude.{◌≡◌, Some, IfOk, IfErr, map};
-ghost use Rattle.lock_profile.specs.Groups.{pairs};
+ghost use Rattle.std.specs.Prelude.{◌≡◌, ◌≤◌, IfOk, IfErr, length, map};
+ghost use Rattle.lock_profile.specs.Groups.{pair_of, pairs};
 ghost use Rattle.world.specs.Views.{world_view};
-ghost use Rattle.embed.specs.Given.{IsEffect, Runs, change_at};
-ghost use Rattle.embed.specs.declared.failure.Subject.TheVariants as subject;
-ghost use Rattle.embed.specs.Refusals as told;
-ghost use Rattle.embed.specs.Refusals.{IfRefused, RefusesCalled};
+ghost use Rattle.embed.specs.Given.{IsEffect, IsEffectOf, Runs, change_at};
+ghost use Rattle.embed.specs.Refusals.{IfRefused, LacksCall, RefusesCalled};
 
-use crate::failure::{Failure, Refusal, Subject};
+use crate::failure::{Failure, Subject, refused};
 use crate::inputs::{calls_of, world_of};
 use call::Call;
 use lock_profile::Held;
@@ -42,6 +40,18 @@ pub struct Effects {
     pub changes: Vec<Change>,
 }
 
+/// The cell at a lock that a call asked for, before and after it.
+fn change_at(held: Held, before: &Cells, later: &Cells) -> Change
+    ensures { result ≡ change_at before.now.cells later.now.cells (pair_of held) }
+{
+    Change {
+        lock: held.lock,
+        mode: held.mode,
+        before: before.get(held.lock),
+        later: later.get(held.lock),
+    }
+}
+
 /// The cells at these locks, before and after a call.
 fn changes_at(
     alloc: Global,
@@ -53,12 +63,7 @@ fn changes_at(
 {
     let mut all = Vec::new(alloc);
     for held in locks {
-        all.push(Change {
-            lock: held.lock,
-            mode: held.mode,
-            before: before.get(held.lock),
-            later: later.get(held.lock),
-        })?;
+        all.push(change_at(*held, before, later))?;
     }
     Ok(all)
 }
@@ -79,13 +84,32 @@ fn effects_of(alloc: Global, world: &World, call: &Call) -> Result<Effects, NoMe
     })
 }
 
-/// The failure of a list of so many calls that has no call of this number.
-fn lack_call(alloc: Global, count: usize, number: u32) -> Failure
-    ensures { IfRefused result (λ r. r ≡ told.refusal subject.Calls 3 (Some count)) }
+/// The failure of a list that has no call of this number.
+fn lack_call(alloc: Global, calls: &[Call], number: u32) -> Failure
+    requires { length calls.now ≤ number }
+    ensures { IfRefused result (LacksCall calls.now number) }
 {
-    Refusal::at(Subject::Calls, 3, Some(count as u64)).with_sentence(format!(in alloc;
-        "calls: there is no call {number}, since the text has {count}; name one below that, from 0"
-    ))
+    let count = calls.len();
+    refused(
+        Subject::Calls,
+        3,
+        Some(count as u64),
+        format!(in alloc;
+            "calls: there is no call {number}, since the text has {count}; name one below that, from 0"
+        ),
+    )
+}
+
+/// What the call of this number of a list comes to alone over the cells of a world; or that there is none.
+fn run_listed(alloc: Global, world: &World, calls: &[Call], number: u32) -> Result<Effects, Failure>
+    ensures ran { IfOk result (λ e. IsEffectOf (world_view world.now) number e.receipt e.changes.items calls.now) }
+    ensures refused { IfErr result (λ f. IfRefused f (LacksCall calls.now number)) }
+{
+    let Some(call) = calls.get(number as usize) else {
+        return Err(lack_call(alloc, calls, number));
+    };
+    let effects = effects_of(alloc, world, call)?;
+    Ok(effects)
 }
 
 /// What the call of this number of a text comes to alone over the cells of a world.
@@ -104,9 +128,5 @@ pub fn call_alone(
 {
     let before = world_of(alloc, world)?;
     let list = calls_of(alloc, calls)?;
-    let Some(call) = list.as_slice().get(number as usize) else {
-        return Err(lack_call(alloc, list.len(), number));
-    };
-    let effects = effects_of(alloc, &before, call)?;
-    Ok(effects)
+    run_listed(alloc, &before, &list, number)
 }

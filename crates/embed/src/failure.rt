@@ -64,6 +64,18 @@ impl Refusal {
     }
 }
 
+/// The failure of the refusal of this number at a place, of no function, with its sentence; or for memory, where that was refused to the sentence.
+pub(crate) fn refused(
+    subject: Subject,
+    number: u32,
+    place: Option<u64>,
+    sentence: Result<String, AllocError>,
+) -> Failure
+    ensures { IfRefused result (λ r. r ≡ refusal subject number place) }
+{
+    Refusal::at(subject, number, place).with_sentence(sentence)
+}
+
 /// Why the library does not do what it is asked.
 #[derive(Debug, Drop)]
 pub enum Failure {

@@ -6,7 +6,7 @@ ghost use Rattle.link.specs.Parts.{tree_of, hosts_of};
 ghost use Rattle.module_tree.specs.Modules.{module_view};
 ghost use Rattle.world.specs.Views.{world_view};
 ghost use Rattle.wblock_calls.specs.Texts.{SpellsCalls};
-ghost use Rattle.wblock_line.specs.Modules.{IsContractOf};
+ghost use Rattle.wblock_line.specs.Modules.{IsContractOf, StopsAt};
 ghost use Rattle.embed.specs.Refusals as told;
 ghost use Rattle.embed.specs.Refusals.{IfRefused, RefusesCalls, RefusesModule, RefusesWorld};
 
@@ -70,10 +70,21 @@ pub fn calls_of(alloc: Global, text: &[u8]) -> Result<Vec<Call>, Failure>
 }
 
 /// The failure of a module of these bytes that is refused so.
-pub(crate) fn refuse_module(alloc: Global, bytes: &[u8], refusal: ModuleRefusal) -> Failure
+fn refuse_module(alloc: Global, bytes: &[u8], refusal: ModuleRefusal) -> Failure
     ensures { IfRefused result (λ r. r ≡ told.module_refusal refusal) }
 {
     module_refusal(refusal).with_sentence(refusal.words(alloc, bytes))
+}
+
+/// The failure of a module of these bytes that is not read, for this cause.
+pub(crate) fn refuse_stop(alloc: Global, bytes: &[u8], stop: Stop) -> Failure
+    requires { StopsAt bytes.now stop }
+    ensures { IfRefused result (RefusesModule bytes.now) }
+{
+    match stop {
+        Stop::Refused(refusal) => refuse_module(alloc, bytes, refusal),
+        Stop::NoMemory => Failure::NoMemory,
+    }
 }
 
 /// The contract that a module's bytes are.
@@ -87,7 +98,6 @@ pub(crate) fn contract_of(alloc: Global, bytes: &[u8]) -> Result<Deployed<Global
 {
     match read_contract(alloc, bytes) {
         Ok(contract) => Ok(contract),
-        Err(Stop::Refused(refusal)) => Err(refuse_module(alloc, bytes, refusal)),
-        Err(Stop::NoMemory) => Err(Failure::NoMemory),
+        Err(stop) => Err(refuse_stop(alloc, bytes, stop)),
     }
 }

@@ -17,7 +17,7 @@ pub(crate) fn module_refusal(refusal: ModuleRefusal) -> Refusal
         ModuleRefusal::Malformed(at) => Refusal::at(Subject::Load, 1, Some(at as u64)),
         ModuleRefusal::Unsupported(at) => Refusal::at(Subject::Load, 2, Some(at as u64)),
         ModuleRefusal::TooLarge(limit) => {
-            Refusal::at(Subject::Load, 3, Some(u64::from(limit.number())))
+            Refusal::at(Subject::Load, 3, Some(limit.number() as u64))
         }
         ModuleRefusal::Untyped {
             rule,
@@ -25,18 +25,18 @@ pub(crate) fn module_refusal(refusal: ModuleRefusal) -> Refusal
             ordinal,
         } => Refusal {
             subject: Subject::Check,
-            number: u32::from(rule.number()),
-            place: Some(u64::from(ordinal)),
+            number: rule.number() as u32,
+            place: Some(ordinal as u64),
             function: func,
         },
         ModuleRefusal::UnknownImport(import) => {
-            Refusal::at(Subject::Deploy, 1, Some(u64::from(import)))
+            Refusal::at(Subject::Deploy, 1, Some(import as u64))
         }
         ModuleRefusal::ImportType(import) => {
-            Refusal::at(Subject::Deploy, 2, Some(u64::from(import)))
+            Refusal::at(Subject::Deploy, 2, Some(import as u64))
         }
         ModuleRefusal::SegmentRange(segment) => {
-            Refusal::at(Subject::Deploy, 3, Some(u64::from(segment)))
+            Refusal::at(Subject::Deploy, 3, Some(segment as u64))
         }
         ModuleRefusal::TooManyPages => Refusal::at(Subject::Deploy, 4, None),
         ModuleRefusal::TableTooLarge => Refusal::at(Subject::Deploy, 5, None),

@@ -48,6 +48,12 @@ abbrev pub found_at : Cells → CellRecord → Option Kind → Option ℕ
 found_at cells c None = None
 found_at cells c (Some kind) = get cells (record { contract = c.contract; kind = kind; key = c.key })
 
+-- what the world that the bytes spell has at the lock that a record names
+pub record IsFoundIn (world : List ℕ) (cell : CellRecord) (found : Option ℕ) : Type 0 where
+  pub cells : Cells
+  pub of_world : AreCellsOf world cells
+  pub found_is : found ≡ found_at cells cell (kind_of cell.kind)
+
 -- the cell that a record names was looked up, and so many were found
 pub record IsLookedUp (world : List ℕ) (old new : CellRecord) (count : ℕ) : Type 0 where
   pub cells : Cells
@@ -79,11 +85,14 @@ abbrev pub receipt_record : (call : ℕ) → Receipt → ReceiptRecord
 receipt_record call r =
     record { fuel = r.used; value = value_of r.outcome; call = call; asks = r.asks; outcome = outcome_number r.outcome; code = code_of r.outcome }
 
+abbrev pub position_record : Position → ReceiptRecord
+position_record p = receipt_record p.call p.receipt
+
 -- the receipts of the block that the bytes spell
 pub record AreReceiptsOf (bytes : List ℕ) (records : List ReceiptRecord) : Type 0 where
   pub block : Block
   pub spelled : SpellsBlock bytes block
-  pub are : records ≡ map (λ (p : Position). receipt_record p.call p.receipt) block.positions
+  pub are : records ≡ map position_record block.positions
 
 -- ---- changes
 

@@ -21,7 +21,7 @@ pub extern "C" fn foshqarel_calls(
 {
     match embed::calls_of(alloc, calls) {
         Ok(list) => count(list.len(), told),
-        Err(failure) => fail(&failure, sentence, told),
+        Err(failure) => fail(failure, sentence, told),
     }
 }
 
@@ -40,7 +40,7 @@ pub extern "C" fn foshqarel_mine(
 {
     match embed::mine(alloc, world, calls, fuel) {
         Ok(made) => give_both(&made.block, &made.next, block, next, told),
-        Err(failure) => fail(&failure, block, told),
+        Err(failure) => fail(failure, block, told),
     }
 }
 
@@ -59,6 +59,6 @@ pub extern "C" fn foshqarel_verify(
 {
     match embed::verify(alloc, world, calls, fuel, block) {
         Ok(bytes) => give(&bytes, next, told),
-        Err(failure) => fail(&failure, next, told),
+        Err(failure) => fail(failure, next, told),
     }
 }

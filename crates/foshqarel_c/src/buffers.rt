@@ -1,6 +1,6 @@
 //! The caller's buffers: what is written to them, and what is answered.
 
-ghost use Rattle.std.specs.Prelude.{◌≡◌, length, drop};
+ghost use Rattle.std.specs.Prelude.{◌≡◌, ◌≤◌, ◌++◌, length, drop};
 ghost use Rattle.foshqarel_c.specs.Buffers.{ArePut, IsFailure, IsPut, done, laid, no_memory, told_given};
 
 use crate::told::Told;
@@ -18,38 +18,54 @@ const SHORT: u32 = 2;
 /// Memory was refused.
 const NO_MEMORY: u32 = 3;
 
+/// Writes items over the front of a list.
+fn put_front<T: Copy>(items: &[T], out: &mut [T])
+    requires { length items.now ≤ length out.old }
+    ensures { out.new ≡ items.now ++ drop (length items.now) out.old }
+{
+    out[..items.len()].copy_from_slice(items);
+}
+
 /// Puts items to the front of a list, as many as it holds.
-#[tactic(auto, using(crate::proofs::Laying::all_fit, crate::proofs::Laying::as_many))]
-pub(crate) fn lay<T: Copy>(items: &[T], out: &mut [T])
+fn lay<T: Copy>(items: &[T], out: &mut [T])
     ensures { out.new ≡ laid items.now out.old }
 {
-    if items.len() <= out.len() {
-        out[..items.len()].copy_from_slice(items);
-    } else {
-        let count = out.len();
+    let count = out.len();
+    if items.len() > count {
         out.copy_from_slice(&items[..count]);
+        return;
     }
+    put_front(items, out);
 }
 
 /// What stands from this place on.
-pub(crate) fn rest_of<T>(items: &[T], from: u64) -> &[T]
+fn rest_of<T>(items: &[T], from: u64) -> &[T]
     ensures { result.now ≡ drop from items.entry.now }
 {
     if from >= items.len() as u64 {
-        return &items[items.len()..];
+        return &[];
     }
     &items[from as usize..]
 }
 
+/// Gives the items from a place on, as many as the list holds.
+pub(crate) fn give_items<T: Copy>(items: &[T], from: u64, out: &mut [T], told: &mut Told) -> u32
+    ensures laid { out.new ≡ laid (drop from items.now) out.old }
+    ensures status { result ≡ done }
+    ensures told { told.new ≡ told_given (length items.now) 0 }
+{
+    lay(rest_of(items, from), out);
+    count(items.len(), told)
+}
+
 /// Puts bytes into a buffer where they fit, and answers with this status; else puts nothing.
-#[tactic(auto, using(crate::proofs::Laying::all_fit))]
 fn put(status: u32, bytes: &[u8], out: &mut [u8]) -> u32
     ensures { IsPut status bytes.now out.old out.new result }
 {
     if out.len() < bytes.len() {
         return SHORT;
     }
-    lay(bytes, out);
+    put_front(bytes, out);
     status
 }
 
@@ -63,7 +79,6 @@ pub(crate) fn give(bytes: &[u8], out: &mut [u8], told: &mut Told) -> u32
 }
 
 /// Gives two outputs, where both fit.
-#[tactic(auto, using(crate::proofs::Laying::all_fit))]
 pub(crate) fn give_both(
     first: &[u8],
     second: &[u8],
@@ -75,11 +90,14 @@ pub(crate) fn give_both(
     ensures told { told.new ≡ told_given (length first.now) (length second.now) }
 {
     *told = Told::given(first.len(), second.len());
-    if first_out.len() < first.len() || second_out.len() < second.len() {
+    if first_out.len() < first.len() {
         return SHORT;
     }
-    lay(first, first_out);
-    lay(second, second_out);
+    if second_out.len() < second.len() {
+        return SHORT;
+    }
+    put_front(first, first_out);
+    put_front(second, second_out);
     DONE
 }
 
@@ -102,13 +120,14 @@ pub(crate) fn lack(told: &mut Told) -> u32
 }
 
 /// Tells of a failure, and puts the sentence of a refusal.
-pub(crate) fn fail(failure: &Failure, sentence: &mut [u8], told: &mut Told) -> u32
-    ensures { IsFailure failure.now sentence.old sentence.new told.new result }
+pub(crate) fn fail(failure: Failure, sentence: &mut [u8], told: &mut Told) -> u32
+    ensures { IsFailure failure sentence.old sentence.new told.new result }
 {
     match failure {
         Failure::Refused(refusal, words) => {
-            *told = Told::refused(*refusal, words.len());
-            put(REFUSED, words.as_bytes(), sentence)
+            let bytes = words.as_bytes();
+            *told = Told::refused(refusal, bytes.len());
+            put(REFUSED, bytes, sentence)
         }
         Failure::NoMemory => lack(told),
     }

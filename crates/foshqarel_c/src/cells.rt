@@ -1,14 +1,15 @@
 //! The exports on the cells of worlds.
 
-ghost use Rattle.std.specs.Prelude.{◌≡◌, ◌⊎◌, IfOk, map};
+ghost use Rattle.std.specs.Prelude.{◌≡◌, ◌⊎◌, IfOk, IfErr, map};
 ghost use Rattle.std.specs.FinMap.{entries};
 ghost use Rattle.spec_block.specs.Bytes.{kind_code};
-ghost use Rattle.embed.specs.Refusals.{RefusesWorld};
-ghost use Rattle.foshqarel_c.specs.Buffers.{Fails, IsCounted, Lists};
-ghost use Rattle.foshqarel_c.specs.Records.{AreRecords, IsLookedUp, cell_record, filled, found_at, kind_of};
+ghost use Rattle.embed.specs.Refusals.{IfRefused, RefusesWorld};
+ghost use Rattle.foshqarel_c.specs.Buffers.{Fails, IsCounted, Lists, done, told_given};
+ghost use Rattle.foshqarel_c.specs.Records.{AreRecords, IsFoundIn, IsLookedUp, cell_record, count_of, filled, found_at, kind_of};
 
-use crate::buffers::{count, fail, lack, lay, rest_of};
+use crate::buffers::{count, fail, give_items};
 use crate::told::Told;
+use embed::Failure;
 use std::alloc::{AllocError, Global};
 use storage::{Cells, Kind, Lock};
 
@@ -47,18 +48,25 @@ fn kind_of(number: u32) -> Option<Kind>
     }
 }
 
+/// A cell as a record.
+fn cell_record(lock: Lock, number: u64) -> CellRecord
+    ensures { result ≡ cell_record (lock, number) }
+{
+    CellRecord {
+        key: lock.key,
+        number,
+        contract: lock.contract,
+        kind: kind_number(lock.kind),
+    }
+}
+
 /// The cells as records, in the order of locks.
 fn records_of(alloc: Global, cells: &Cells) -> Result<Vec<CellRecord>, AllocError>
     ensures { IfOk result (λ all. all.items ≡ map cell_record (entries cells.now.cells)) }
 {
     let mut all = Vec::new(alloc);
     for (lock, number) in cells.entries() {
-        all.push(CellRecord {
-            key: lock.key,
-            number,
-            contract: lock.contract,
-            kind: kind_number(lock.kind),
-        })?;
+        all.push(cell_record(lock, number))?;
     }
     Ok(all)
 }
@@ -77,6 +85,40 @@ fn found_at(cells: &Cells, cell: CellRecord) -> Option<u64>
     }
 }
 
+/// The cells of a world as records; or why the bytes spell none.
+fn records_in(alloc: Global, world: &[u8]) -> Result<Vec<CellRecord>, Failure>
+    ensures records { IfOk result (λ all. AreRecords world.now all.items) }
+    ensures refused { IfErr result (λ f. IfRefused f (RefusesWorld world.now)) }
+{
+    let cells = embed::cells_of(alloc, world)?;
+    let records = records_of(alloc, &cells)?;
+    Ok(records)
+}
+
+/// What a world has at the lock that a record names; or why the bytes spell none.
+fn look_up(alloc: Global, world: &[u8], cell: CellRecord) -> Result<Option<u64>, Failure>
+    ensures found { IfOk result (λ number. IsFoundIn world.now cell number) }
+    ensures refused { IfErr result (λ f. IfRefused f (RefusesWorld world.now)) }
+{
+    let cells = embed::cells_of(alloc, world)?;
+    Ok(found_at(&cells, cell))
+}
+
+/// Puts what was found into a record, where something was, and gives how many were.
+fn fill(found: Option<u64>, cell: &mut CellRecord, told: &mut Told) -> u32
+    ensures cell { cell.new ≡ filled cell.old found }
+    ensures status { result ≡ done }
+    ensures told { told.new ≡ told_given (count_of found) 0 }
+{
+    match found {
+        None => count(0, told),
+        Some(number) => {
+            cell.number = number;
+            count(1, told)
+        }
+    }
+}
+
 /// Looks up the cell that a record names, and puts what it holds into it; `told.size` is 1, or 0 where the cell is absent.
 #[unsafe(no_mangle)]
 pub extern "C" fn foshqarel_world_cell(
@@ -88,16 +130,9 @@ pub extern "C" fn foshqarel_world_cell(
 ) -> u32
     ensures { IsCounted (IsLookedUp world.now cell.old cell.new) sentence.old sentence.new told.new result ⊎ ((cell.new ≡ cell.old) × Fails (RefusesWorld world.now) sentence.old sentence.new told.new result) }
 {
-    let cells = match embed::cells_of(alloc, world) {
-        Ok(cells) => cells,
-        Err(failure) => return fail(&failure, sentence, told),
-    };
-    match found_at(&cells, *cell) {
-        None => count(0, told),
-        Some(number) => {
-            cell.number = number;
-            count(1, told)
-        }
+    match look_up(alloc, world, *cell) {
+        Ok(found) => fill(found, cell, told),
+        Err(failure) => fail(failure, sentence, told),
     }
 }
 
@@ -113,15 +148,8 @@ pub extern "C" fn foshqarel_world_cells(
 ) -> u32
     ensures { Lists (AreRecords world.now) (RefusesWorld world.now) from cells.old cells.new sentence.old sentence.new told.new result }
 {
-    let found = match embed::cells_of(alloc, world) {
-        Ok(found) => found,
-        Err(failure) => return fail(&failure, sentence, told),
-    };
-    match records_of(alloc, &found) {
-        Ok(records) => {
-            lay(rest_of(&records, from), cells);
-            count(records.len(), told)
-        }
-        Err(AllocError) => lack(told),
+    match records_in(alloc, world) {
+        Ok(records) => give_items(&records, from, cells, told),
+        Err(failure) => fail(failure, sentence, told),
     }
 }

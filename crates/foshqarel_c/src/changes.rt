@@ -1,16 +1,16 @@
 //! The export on one call alone.
 
-ghost use Rattle.std.specs.Prelude.{◌≡◌, ◌⊎◌, IfOk, map};
+ghost use Rattle.std.specs.Prelude.{◌≡◌, ◌⊎◌, IfOk, IfErr, map};
 ghost use Rattle.spec_block.specs.Bytes.{mode_code};
-ghost use Rattle.embed.specs.Refusals.{RefusesCalled};
+ghost use Rattle.embed.specs.Refusals.{IfRefused, RefusesCalled};
 ghost use Rattle.foshqarel_c.specs.Buffers.{FailsListing, IsListed};
 ghost use Rattle.foshqarel_c.specs.Records.{AreChangesOf, change_record, number_in, presence};
 
-use crate::buffers::{count, fail, lack, lay};
+use crate::buffers::{fail, give_items};
 use crate::cells::kind_number;
 use crate::receipts::{ReceiptRecord, receipt_record};
 use crate::told::Told;
-use embed::Change;
+use embed::{Change, Failure};
 use spec_ledger::Mode;
 use std::alloc::{AllocError, Global};
 
@@ -93,6 +93,21 @@ fn records_of(alloc: Global, changes: &[Change]) -> Result<Vec<ChangeRecord>, Al
     Ok(all)
 }
 
+/// The receipt and the cells of the call of this number of a text alone over a world, as records; or why there are none.
+fn records_in(
+    alloc: Global,
+    world: &[u8],
+    calls: &[u8],
+    number: u32,
+) -> Result<(ReceiptRecord, Vec<ChangeRecord>), Failure>
+    ensures ran { IfOk result (λ x. AreChangesOf world.now calls.now number x.0 x.1.items) }
+    ensures refused { IfErr result (λ f. IfRefused f (RefusesCalled world.now calls.now number)) }
+{
+    let effects = embed::call_alone(alloc, world, calls, number)?;
+    let records = records_of(alloc, &effects.changes)?;
+    Ok((receipt_record(number, effects.receipt), records))
+}
+
 /// Runs the call of this number of a text alone over a world: puts its receipt, and as many of the cells that it asked for as the list holds; `told.size` is how many they
 /// are. Nothing is changed.
 #[unsafe(no_mangle)]
@@ -108,16 +123,11 @@ pub extern "C" fn foshqarel_call(
 ) -> u32
     ensures { IsListed (AreChangesOf world.now calls.now number receipt.new) 0 changes.old changes.new sentence.old sentence.new told.new result ⊎ ((receipt.new ≡ receipt.old) × FailsListing (RefusesCalled world.now calls.now number) changes.old changes.new sentence.old sentence.new told.new result) }
 {
-    let effects = match embed::call_alone(alloc, world, calls, number) {
-        Ok(effects) => effects,
-        Err(failure) => return fail(&failure, sentence, told),
-    };
-    match records_of(alloc, &effects.changes) {
-        Ok(records) => {
-            *receipt = receipt_record(number, effects.receipt);
-            lay(&records, changes);
-            count(records.len(), told)
+    match records_in(alloc, world, calls, number) {
+        Ok((ran, records)) => {
+            *receipt = ran;
+            give_items(&records, 0, changes, told)
         }
-        Err(AllocError) => lack(told),
+        Err(failure) => fail(failure, sentence, told),
     }
 }

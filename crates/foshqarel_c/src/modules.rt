@@ -15,15 +15,15 @@ use std::alloc::Global;
 #[unsafe(no_mangle)]
 pub extern "C" fn foshqarel_check(
     alloc: Global,
-    module: &[u8],
+    code: &[u8],
     sentence: &mut [u8],
     told: &mut Told,
 ) -> u32
-    ensures { Counts (CountsFunctions module.now) (RefusesModule module.now) sentence.old sentence.new told.new result }
+    ensures { Counts (CountsFunctions code.now) (RefusesModule code.now) sentence.old sentence.new told.new result }
 {
-    match embed::check(alloc, module) {
+    match embed::check(alloc, code) {
         Ok(functions) => count(functions, told),
-        Err(failure) => fail(&failure, sentence, told),
+        Err(failure) => fail(failure, sentence, told),
     }
 }
 
@@ -32,14 +32,14 @@ pub extern "C" fn foshqarel_check(
 pub extern "C" fn foshqarel_assemble(
     alloc: Global,
     text: &[u8],
-    module: &mut [u8],
+    code: &mut [u8],
     told: &mut Told,
 ) -> u32
-    ensures { Comes (IsSpelled text.now) (RefusesText text.now) module.old module.new told.new result }
+    ensures { Comes (IsSpelled text.now) (RefusesText text.now) code.old code.new told.new result }
 {
     match embed::assemble(alloc, text) {
-        Ok(bytes) => give(&bytes, module, told),
-        Err(failure) => fail(&failure, module, told),
+        Ok(bytes) => give(&bytes, code, told),
+        Err(failure) => fail(failure, code, told),
     }
 }
 
@@ -47,14 +47,14 @@ pub extern "C" fn foshqarel_assemble(
 #[unsafe(no_mangle)]
 pub extern "C" fn foshqarel_text(
     alloc: Global,
-    module: &[u8],
+    code: &[u8],
     text: &mut [u8],
     told: &mut Told,
 ) -> u32
-    ensures { Comes (IsTextOf false module.now) (RefusesWriting module.now) text.old text.new told.new result }
+    ensures { Comes (IsTextOf false code.now) (RefusesWriting code.now) text.old text.new told.new result }
 {
-    match embed::text_of(alloc, module) {
+    match embed::text_of(alloc, code) {
         Ok(written) => give(written.as_bytes(), text, told),
-        Err(failure) => fail(&failure, text, told),
+        Err(failure) => fail(failure, text, told),
     }
 }

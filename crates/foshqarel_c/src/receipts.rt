@@ -1,14 +1,14 @@
 //! The export on the receipts of a block.
 
-ghost use Rattle.std.specs.Prelude.{◌≡◌, IfOk, map};
-ghost use Rattle.spec_block.specs.Worlds.{Position as ThePosition};
-ghost use Rattle.embed.specs.Refusals.{RefusesBlock};
+ghost use Rattle.std.specs.Prelude.{◌≡◌, IfOk, IfErr, map};
+ghost use Rattle.embed.specs.Refusals.{IfRefused, RefusesBlock};
 ghost use Rattle.foshqarel_c.specs.Buffers.{Lists};
-ghost use Rattle.foshqarel_c.specs.Records.{AreReceiptsOf, code_of, outcome_number, receipt_record, value_of};
+ghost use Rattle.foshqarel_c.specs.Records.{AreReceiptsOf, code_of, outcome_number, position_record, receipt_record, value_of};
 
-use crate::buffers::{count, fail, lack, lay, rest_of};
+use crate::buffers::{fail, give_items};
 use crate::told::Told;
 use block::Position;
+use embed::Failure;
 use spec_ledger::{Outcome, Receipt};
 use std::alloc::{AllocError, Global};
 use wtypes::Value;
@@ -82,15 +82,32 @@ pub(crate) fn receipt_record(call: u32, receipt: Receipt) -> ReceiptRecord
     }
 }
 
+/// The record of the call of a position.
+fn position_record(position: &Position) -> ReceiptRecord
+    ensures { result ≡ position_record position.now }
+{
+    receipt_record(position.call(), position.receipt())
+}
+
 /// The receipts of positions as records.
 fn records_of(alloc: Global, positions: &[Position]) -> Result<Vec<ReceiptRecord>, AllocError>
-    ensures { IfOk result (λ all. all.items ≡ map (λ (p : ThePosition). receipt_record p.call p.receipt) positions.now) }
+    ensures { IfOk result (λ all. all.items ≡ map position_record positions.now) }
 {
     let mut all = Vec::new(alloc);
     for position in positions {
-        all.push(receipt_record(position.call(), position.receipt()))?;
+        all.push(position_record(position))?;
     }
     Ok(all)
+}
+
+/// The receipts of a block as records; or why the bytes spell none.
+fn records_in(alloc: Global, block: &[u8]) -> Result<Vec<ReceiptRecord>, Failure>
+    ensures records { IfOk result (λ all. AreReceiptsOf block.now all.items) }
+    ensures refused { IfErr result (λ f. IfRefused f (RefusesBlock block.now)) }
+{
+    let found = embed::block_of(alloc, block)?;
+    let records = records_of(alloc, found.positions())?;
+    Ok(records)
 }
 
 /// Puts the receipts of a block from this position on, as many as the list holds; `told.size` is how many positions it has. It is not verified.
@@ -105,15 +122,8 @@ pub extern "C" fn foshqarel_receipts(
 ) -> u32
     ensures { Lists (AreReceiptsOf block.now) (RefusesBlock block.now) from receipts.old receipts.new sentence.old sentence.new told.new result }
 {
-    let found = match embed::block_of(alloc, block) {
-        Ok(found) => found,
-        Err(failure) => return fail(&failure, sentence, told),
-    };
-    match records_of(alloc, found.positions()) {
-        Ok(records) => {
-            lay(rest_of(&records, from), receipts);
-            count(records.len(), told)
-        }
-        Err(AllocError) => lack(told),
+    match records_in(alloc, block) {
+        Ok(records) => give_items(&records, from, receipts, told),
+        Err(failure) => fail(failure, sentence, told),
     }
 }

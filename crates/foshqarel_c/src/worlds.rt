@@ -26,15 +26,15 @@ pub extern "C" fn foshqarel_world_new(alloc: Global, world: &mut [u8], told: &mu
 pub extern "C" fn foshqarel_world_extend(
     alloc: Global,
     world: &[u8],
-    module: &[u8],
+    code: &[u8],
     next: &mut [u8],
     told: &mut Told,
 ) -> u32
-    ensures { Comes (IsExtension world.now module.now) (RefusesExtending world.now module.now) next.old next.new told.new result }
+    ensures { Comes (IsExtension world.now code.now) (RefusesExtending world.now code.now) next.old next.new told.new result }
 {
-    match embed::extend(alloc, world, module) {
+    match embed::extend(alloc, world, code) {
         Ok(bytes) => give(&bytes, next, told),
-        Err(failure) => fail(&failure, next, told),
+        Err(failure) => fail(failure, next, told),
     }
 }
 
@@ -50,6 +50,6 @@ pub extern "C" fn foshqarel_world_digest(
 {
     match embed::digest_of(alloc, world) {
         Ok(bytes) => give(bytes.as_slice(), digest, told),
-        Err(failure) => fail(&failure, digest, told),
+        Err(failure) => fail(failure, digest, told),
     }
 }

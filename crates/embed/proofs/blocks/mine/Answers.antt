@@ -1,5 +1,6 @@
-use Rattle.std.proofs.Common.{inl, inr, subst}
+use Rattle.std.proofs.Common.{List, inl, inr, subst, arith}
 use Rattle.std.proofs.lemmas.Result.{err_from_is_err_and}
+use Rattle.spec_block.specs.Worlds.{Call}
 use Rattle.world.specs.Views.{world_view}
 use Rattle.embed.specs.Given.{IsMined}
 use Rattle.embed.specs.Refusals.{RefusesCalls, RefusesInputs, RefusesWorld}
@@ -16,8 +17,8 @@ returns-clause-mined c =
       is = record {
         list = c.in_ok-list.list.items;
         spelled = c.in_ok-list.ensures.spelled;
-        few = c.in_ok-list.ensures.few;
-        is = subst (λ cs. IsMined w cs c.args.fuel made.block.items made.next.items) c.deref.ensures.value c.in_ok-made.ensures;
+        few = omega (arith, c.in_ok-list.ensures.few, c.in_ok-list.list.ok.0);
+        is = subst (λ (cs : List Call). IsMined w cs c.args.fuel made.block.items made.next.items) c.deref.ensures.value c.in_ok-made.ensures;
       };
     }
 

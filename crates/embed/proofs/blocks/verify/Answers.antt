@@ -1,4 +1,4 @@
-use Rattle.std.proofs.Common.{List, inl, inr, subst}
+use Rattle.std.proofs.Common.{List, inl, inr, subst, arith}
 use Rattle.std.proofs.lemmas.Result.{IfErr-weaker, IfOk-weaker, err_from_is_err_and}
 use Rattle.spec_block.specs.Worlds.{Call}
 use Rattle.world.specs.Views.{world_view}
@@ -17,7 +17,7 @@ returns-clause-accepted c =
       is = record {
         list = c.in_ok-list.list.items;
         spelled = c.in_ok-list.ensures.spelled;
-        few = c.in_ok-list.ensures.few;
+        few = omega (arith, c.in_ok-list.ensures.few, c.in_ok-list.list.ok.0);
         is = subst (λ (cs : List Call). IsAccepted w cs c.args.fuel c.args.block.now next.items) c.deref.ensures.value is;
       };
     }) c.verify_over.ensures.accepted
@@ -26,14 +26,14 @@ pub returns-clause-refused : goal.returns-clause-refused
 returns-clause-refused c =
     let w = world_view c.in_ok-before.before in
     IfErr-weaker c.verify_over.result _ _
-    (λ f is. if_refused f _ (RefusesVerified c.args.world.now c.args.calls.now c.args.fuel c.args.block.now)
+    (λ f is. if_refused f (Rejects w c.deref.result.now c.args.fuel c.args.block.now) (RefusesVerified c.args.world.now c.args.calls.now c.args.fuel c.args.block.now)
     (λ r told. inr (record {
       world = w;
       spelled = c.in_ok-before.ensures.spelled;
       is = record {
         list = c.in_ok-list.list.items;
         spelled = c.in_ok-list.ensures.spelled;
-        few = c.in_ok-list.ensures.few;
+        few = omega (arith, c.in_ok-list.ensures.few, c.in_ok-list.list.ok.0);
         is = subst (λ (cs : List Call). Rejects w cs c.args.fuel c.args.block.now r) c.deref.ensures.value told;
       };
     })) is) c.verify_over.ensures.rejected

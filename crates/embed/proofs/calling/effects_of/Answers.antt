@@ -1,6 +1,8 @@
 use Rattle.std.proofs.Common.{◌≡◌, List, ap, subst, ◌∙◌, map}
 use Rattle.spec_ledger.specs.declared.Version.TheVariants.{Two}
 use Rattle.spec_execution.specs.Exec.{Executes}
+use Rattle.spec_ledger.specs.declared.Lock.{Lock}
+use Rattle.spec_ledger.specs.declared.Mode.{Mode}
 use Rattle.spec_ledger.specs.Cells.{AreCells, Cells}
 use Rattle.spec_block.specs.Worlds.{Contract}
 use Rattle.spec_block.specs.Serial.{setting_of}
@@ -29,6 +31,6 @@ returns c =
       later = later;
       executed = executes;
       changes_are =
-          c.in_ok-changes.ensures ∙ (ap (λ (cells : Cells). map (change_at cells later) (pairs c.held.result.now)) c.cells-before.ensures ∙ ap (λ held. map (change_at world.cells later) held) c.held.ensures);
+          c.in_ok-changes.ensures ∙ (ap (λ (cells : Cells). map (change_at cells later) (pairs c.held.result.now)) c.cells-before.ensures ∙ ap (λ (held : List (Lock × Mode)). map (change_at world.cells later) held) c.held.ensures);
       others = λ lock none. untouched world.cells later touched lock (law.left (setting_of Two world) call world.cells later receipt touched are executes) (law.kept world.cells later world.cells touched lock) none;
     }

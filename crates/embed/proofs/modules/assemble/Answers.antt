@@ -1,27 +1,24 @@
-use Rattle.std.proofs.Common.{List, ℕ, subst}
+use Rattle.std.proofs.Common.{ℕ, List, subst}
+use Rattle.std.proofs.lemmas.Result.{IfErr-weaker, IfOk-weaker}
 use Rattle.lexer.specs.declared.LexRefusal.TheVariants.{BadToken}
 use Rattle.text_resolve.specs.declared.refusal.AsmRefusal.TheVariants.{Lex}
-use Rattle.assembler.specs.Named.{NamesNothing, IsWhy}
-use Rattle.embed.specs.Refusals.{IsToldAs, RefusesText}
-use Rattle.embed.proofs.Refusing.{if_refused, unless_told}
+use Rattle.wblock_modules.specs.Assembles.{IsSpelled}
+use Rattle.embed.specs.Refusals.{IfRefused, IsToldAs, RefusesText}
+use Rattle.embed.proofs.Refusing.{if_refused}
 use Rattle.embed.proofs.modules.assemble.Goals as goal
 
-pub returns-in-Ok-Err-clause-refused : goal.returns-in-Ok-Err-clause-refused
-returns-in-Ok-Err-clause-refused c =
-    let cause = c.in-Ok-Err.refusal in
-    let same = c.in-Ok.ensures.cases.0 in
-    if_refused c.refuse_text.result (IsToldAs cause) (RefusesText c.args.text.now)
-    (λ r told. record {
-      none = subst (λ (t : List ℕ). NamesNothing t) same (unless_told _ cause (told.number, told.at) c.in-Ok-Err.ensures.refused told.told_as);
-      cause = cause;
-      why = subst (λ (t : List ℕ). IsWhy t cause) same c.in-Ok-Err.ensures.why;
-      told_as = told;
-    }) c.refuse_text.ensures
+pub returns-in-Ok-clause-spelled : goal.returns-in-Ok-clause-spelled
+returns-in-Ok-clause-spelled c =
+    IfOk-weaker c.assemble_text.result _ _ (λ v is. subst (λ (t : List ℕ). IsSpelled t v.items) c.in-Ok.ensures.cases.0 is) c.assemble_text.ensures.spelled
+
+pub returns-in-Ok-clause-refused : goal.returns-in-Ok-clause-refused
+returns-in-Ok-clause-refused c =
+    IfErr-weaker c.assemble_text.result _ _ (λ f is. subst (λ (t : List ℕ). IfRefused f (RefusesText t)) c.in-Ok.ensures.cases.0 is) c.assemble_text.ensures.refused
 
 pub returns-in-Err-clause-refused : goal.returns-in-Err-clause-refused
 returns-in-Err-clause-refused c =
     let none = c.in-Err.ensures.cases.0 in
-    if_refused c.refuse_bytes.result _ (RefusesText c.args.text.now)
+    if_refused c.refuse_bytes.result (λ r. (at : ℕ) × IsToldAs (Lex (BadToken at)) r) (RefusesText c.args.text.now)
     (λ r told. record {
       none = λ m n. none n.spelled.lexes.utf8;
       cause = Lex (BadToken told.0);

@@ -1,17 +1,22 @@
-use Rattle.std.proofs.Common.{◌≡◌, ◌∙◌, inl, inr}
-use Rattle.embed.specs.Refusals.{RefusesWriting, module_refusal}
-use Rattle.embed.proofs.Refusing.{if_refused}
+use Rattle.std.proofs.Common.{false, inl, subst}
+use Rattle.std.proofs.lemmas.Result.{IfErr-weaker, IfOk-weaker}
+use Rattle.wblock_modules.specs.Texts.{IsFound}
+use Rattle.wblock_modules.specs.declared.text.Found.{Found}
+use Rattle.embed.specs.Refusals.{IsUnwritten, RefusesModule, RefusesWriting}
+use Rattle.embed.proofs.Refusing.{if_refused, unwritten}
 use Rattle.embed.proofs.modules.text_of.Goals as goal
 
-pub returns-in-Err-Refused-clause-refused : goal.returns-in-Err-Refused-clause-refused
-returns-in-Err-Refused-clause-refused c =
-    if_refused c.refuse_module.result (λ r. r ≡ module_refusal c.in-Err-Refused.refusal) (RefusesWriting c.args.module.now)
-    (λ r told. inl (record { cause = c.in-Err-Refused.refusal; why = c.in-Err-Refused.ensures.refused; told_is = told })) c.refuse_module.ensures
+pub returns-in-Ok-clause-text : goal.returns-in-Ok-clause-text
+returns-in-Ok-clause-text c =
+    IfOk-weaker c.text_in.result _ _ (λ text is. subst (λ (found : Found). IsFound false c.args.code.now found) is c.in-Ok.ensures.found) c.text_in.ensures.text
 
-pub returns-in-Ok-TooLong-clause-refused : goal.returns-in-Ok-TooLong-clause-refused
-returns-in-Ok-TooLong-clause-refused c =
-    if_refused c.with_sentence-in-Ok-TooLong.result (λ r. r ≡ c.at-in-Ok-TooLong.result) (RefusesWriting c.args.module.now) (λ r told. inr (c.in-Ok-TooLong.ensures.found, inl (told ∙ c.at-in-Ok-TooLong.ensures))) c.with_sentence-in-Ok-TooLong.ensures
+pub returns-in-Ok-clause-refused : goal.returns-in-Ok-clause-refused
+returns-in-Ok-clause-refused c =
+    let code = c.args.code.now in
+    let found = c.in-Ok.found in
+    IfErr-weaker c.text_in.result _ _
+    (λ f told. if_refused f (λ r. IsUnwritten found r) (RefusesWriting code) (λ r is. unwritten code found r c.in-Ok.ensures.found is) told) c.text_in.ensures.refused
 
-pub returns-in-Ok-Unwritten-clause-refused : goal.returns-in-Ok-Unwritten-clause-refused
-returns-in-Ok-Unwritten-clause-refused c =
-    if_refused c.with_sentence-in-Ok-Unwritten.result (λ r. r ≡ c.at-in-Ok-Unwritten.result) (RefusesWriting c.args.module.now) (λ r told. inr (c.in-Ok-Unwritten.ensures.found, inr (told ∙ c.at-in-Ok-Unwritten.ensures))) c.with_sentence-in-Ok-Unwritten.ensures
+pub returns-in-Err-clause-refused : goal.returns-in-Err-clause-refused
+returns-in-Err-clause-refused c =
+    if_refused c.refuse_stop.result (RefusesModule c.args.code.now) (RefusesWriting c.args.code.now) (λ r told. inl told) c.refuse_stop.ensures

@@ -5,5 +5,5 @@ use Rattle.embed.proofs.worlds.digest_of.Goals as goal
 
 pub returns-clause-digest : goal.returns-clause-digest
 returns-clause-digest c =
-    let read = c.in_ok-_read in
-    record { world = world_view read._read; spelled = read.ensures.spelled; is = c.digest.ensures ∙ ap (λ (bytes : List ℕ). sha256 bytes) read.ensures.spelled.is }
+    let spelled = c.in_ok-read.ensures.spelled in
+    record { world = world_view c.in_ok-read.read; spelled = spelled; is = c.digest.ensures ∙ ap (λ (bytes : List ℕ). sha256 bytes) spelled.is }

@@ -16,14 +16,14 @@ returns-clause-extended c =
 pub returns-in_err-base-clause-refused : goal.returns-in_err-base-clause-refused
 returns-in_err-base-clause-refused c =
     let p = err_from_is_err_and c.from_residual.result c.from_residual.ensures.1 in
-    rw (p.1, p.2) (if_refused c.in_err-base.field-0.0 (RefusesWorld c.args.world.now) (RefusesExtending c.args.world.now c.args.module.now) (λ r told. inl told) c.in_err-base.ensures.refused)
+    rw (p.1, p.2) (if_refused c.in_err-base.field-0.0 (RefusesWorld c.args.world.now) (RefusesExtending c.args.world.now c.args.code.now) (λ r told. inl told) c.in_err-base.ensures.refused)
 
 pub returns-in_err-find_room-clause-refused : goal.returns-in_err-find_room-clause-refused
 returns-in_err-find_room-clause-refused c =
     let p = err_from_is_err_and c.from_residual-in_err-find_room.result c.from_residual-in_err-find_room.ensures.1 in
-    rw (p.1, p.2) (if_refused c.in_err-find_room.field-0.0 (λ r. IsFull r (world_view c.in_ok-base.base)) (RefusesExtending c.args.world.now c.args.module.now) (λ r told. inr (inl (record { world = world_view c.in_ok-base.base; spelled = c.in_ok-base.ensures.spelled; is = told }))) c.in_err-find_room.ensures.full)
+    rw (p.1, p.2) (if_refused c.in_err-find_room.field-0.0 (λ r. IsFull r (world_view c.in_ok-base.base)) (RefusesExtending c.args.world.now c.args.code.now) (λ r told. inr (inl (record { world = world_view c.in_ok-base.base; spelled = c.in_ok-base.ensures.spelled; is = told }))) c.in_err-find_room.ensures.full)
 
 pub returns-in_err-contract-clause-refused : goal.returns-in_err-contract-clause-refused
 returns-in_err-contract-clause-refused c =
     let p = err_from_is_err_and c.from_residual-in_err-contract.result c.from_residual-in_err-contract.ensures.1 in
-    rw (p.1, p.2) (if_refused c.in_err-contract.field-0.0 (RefusesModule c.args.module.now) (RefusesExtending c.args.world.now c.args.module.now) (λ r told. inr (inr (record { world = world_view c.in_ok-base.base; spelled = c.in_ok-base.ensures.spelled; is = told }))) c.in_err-contract.ensures.refused)
+    rw (p.1, p.2) (if_refused c.in_err-contract.field-0.0 (RefusesModule c.args.code.now) (RefusesExtending c.args.world.now c.args.code.now) (λ r told. inr (inr (record { world = world_view c.in_ok-base.base; spelled = c.in_ok-base.ensures.spelled; is = told }))) c.in_err-contract.ensures.refused)
