@@ -244,7 +244,7 @@ def faults_of_lemmas():
 
 def faults_of_links():
     readers = [TOP / name for name in documents()] + list(TOP.glob("crates/*/README.md")) + list(TOP.glob("*/*.sh")) + [TOP / ".ci/run", TOP / "wrong-bodies.py"]
-    readers += [path for path in (TOP / "kit/README.md", TOP / "examples/README.md") if path.is_file()]
+    readers += [path for path in (TOP / "kit/README.md", TOP / "examples/README.md", TOP / "embed/README.md") if path.is_file()]
     faults = []
     for reader in readers:
         for path in sorted(set(re.findall(r"\b(?:docs|crates|bench|examples|kit)/[\w./-]*\w", reader.read_text()))):

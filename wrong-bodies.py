@@ -54,7 +54,7 @@ VERDICT = re.compile(r"^fn (\S+): (.*)$", re.M)
 # What a verdict begins with where nothing is known of the body itself.
 UNTOLD = ("could not tell", "no proof: it calls")
 # Crates inside which `--rows` tries edits, too: `rt ci` would check the whole crate once more for them, and this script checks their functions.
-INSIDE = ("abstract_locks", "lock_profile", "boost", "validator")
+INSIDE = ("abstract_locks", "lock_profile", "boost", "validator", "foshqarel_c")
 
 
 class Crate:
