@@ -1,5 +1,5 @@
 #!/usr/bin/env bash
-# Tests of the library for C, by its users: c/, rust/ and python/.
+# Tests of the library for C, by its users: c/, rust/ and python/, and the functions in C++ and Go of docs/GUIDE.md.
 #
 #   embed/test.sh [PROGRAM]     PROGRAM: crates/wblock/out/wblock of this repository if it is not given
 #
@@ -13,8 +13,8 @@
 script=embed
 examples=$here
 embed=$(cd "$here/../embed" && pwd)
-if [ ! -f "$embed/../crates/foshqarel_c/out/libfoshqarel_c.a" ]; then
-    echo "embed: there is no crates/foshqarel_c/out/libfoshqarel_c.a; 'rt ci' makes it, and 'rt lib' in crates/foshqarel_c" >&2
+if [ ! -f "$embed/../crates/foshqarel_c/out/libfoshqarel_c.a" ] && [ ! -d "$embed/../crates/embed/out/rlib/embed.rlib" ]; then
+    echo "embed: there is no library crates/embed/out/rlib/embed.rlib; 'rt ci' makes it" >&2
     exit 2
 fi
 
@@ -59,6 +59,25 @@ if command -v python3 >/dev/null; then
     users+=(python)
 else
     echo "embed: there is no python3, so the user in Python is left out"
+fi
+
+# The code in GUIDE that begins with this line.
+code_of_guide() { awk -v first="$1" '$0 == first { on = 1 } /^```/ { on = 0 } on' "$embed/../docs/GUIDE.md"; }
+verifiers=()
+if command -v g++ >/dev/null; then
+    code_of_guide "#include <foshqarel.h>" >guide.h
+    is "c++: compiled" done_well g++ -std=c++17 -O1 -Wall -Wextra -Werror -I . -o user-cpp "$embed/cpp/user.cc" "${flags[@]}"
+    [ -x user-cpp ] && verifiers+=(cpp)
+else
+    echo "embed: there is no g++, so the user in C++ is left out"
+fi
+if command -v go >/dev/null && command -v pkg-config >/dev/null; then
+    mkdir go && cp "$embed/go/user.go" go && (echo "package main" && echo && code_of_guide "// #cgo pkg-config: foshqarel") >go/guide.go
+    printf 'module user\n\ngo 1.19\n' >go/go.mod
+    is "go: compiled" done_well env -C go PKG_CONFIG_PATH="$prefix/lib/pkgconfig" GOCACHE="$work/go/cache" GOFLAGS=-mod=mod GOPROXY=off go build -o ../user-go .
+    [ -x user-go ] && verifiers+=(go)
+else
+    echo "embed: there is no go, so the user in Go is left out"
 fi
 
 # ---- what users do beside the program ----
@@ -126,6 +145,15 @@ forge() {
     [ -x borders ] && is "c: $1: the borders with $4" done_well ./borders "program/$1/$2" "program/$1/$3" "program/$1/$4" "$6"
 }
 
+# Whether a user of GUIDE's function accepts a block: $1 the user, $2 the example, $3 the world, $4 the calls, $5 the block, $6 the fuel. What it prints is in printed.
+verifies() { (cd "program/$2" && "$work/user-$1" "${@:3}") >printed; }
+
+# Whether it rejects it.
+rejects() {
+    verifies "$@"
+    [ $? = 1 ]
+}
+
 # Tries a block that was mined, and of each example one that is forged: as for `forge`.
 tried=" "
 try_block() {
@@ -139,6 +167,11 @@ try_block() {
         "$program" show "program/$1/$5" | grep -E '^(map|counter) ' | sort >wanted
         "$work/user-$user" cells "program/$1/$5" | sort >printed
         is "$user: $1: the cells of $5" cmp printed wanted
+    done
+    for user in "${verifiers[@]}"; do
+        is "$user: $1: the world after $4" verifies "$user" "$1" "$2" "$3" "$4" "$6"
+        is "$user: $1: it is $5" cmp printed "program/$1/$5"
+        is "$user: $1: another fuel" rejects "$user" "$1" "$2" "$3" "$4" 1
     done
     case "$tried" in *" $1 "*) return 0 ;; esac
     tried="$tried$1 "

@@ -77,7 +77,7 @@ fn effects_of(alloc: Global, world: &World, call: &Call) -> Result<Effects, NoMe
     before.use_invariant();
     let mut later = before.copy(alloc)?;
     let executed = execute(alloc, world.contracts(), call, &mut later, Version::Two)?;
-    let changes = changes_at(alloc, executed.touched.held(), before, &later)?;
+    let changes = changes_at(alloc, executed.touched.lock_modes(), before, &later)?;
     Ok(Effects {
         receipt: executed.receipt,
         changes,

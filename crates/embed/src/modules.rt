@@ -15,7 +15,7 @@ use std::alloc::{AllocError, Global};
 use std::str::from_utf8;
 use text_resolve::AsmRefusal;
 use wblock_modules::{
-    Found, count_functions, find_text, front_of, numbered, place_of_fault, spell,
+    Found, count_functions, find_text, front_of, refusal_number, place_of_fault, spell,
 };
 use wblock_words::text_words;
 
@@ -38,7 +38,7 @@ pub fn check(alloc: Global, code: &[u8]) -> Result<usize, Failure>
 fn refuse_text(alloc: Global, text: &str, refusal: AsmRefusal) -> Failure
     ensures { IfRefused result (IsToldAs refusal) }
 {
-    match numbered(refusal) {
+    match refusal_number(refusal) {
         Some((number, place)) => refused(
             Subject::Assemble,
             number as u32,

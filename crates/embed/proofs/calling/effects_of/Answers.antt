@@ -31,6 +31,6 @@ returns c =
       later = later;
       executed = executes;
       changes_are =
-          c.in_ok-changes.ensures ∙ (ap (λ (cells : Cells). map (change_at cells later) (pairs c.held.result.now)) c.cells-before.ensures ∙ ap (λ (held : List (Lock × Mode)). map (change_at world.cells later) held) c.held.ensures);
+          c.in_ok-changes.ensures ∙ (ap (λ (cells : Cells). map (change_at cells later) (pairs c.lock_modes.result.now)) c.cells-before.ensures ∙ ap (λ (held : List (Lock × Mode)). map (change_at world.cells later) held) c.lock_modes.ensures);
       others = λ lock none. untouched world.cells later touched lock (law.left (setting_of Two world) call world.cells later receipt touched are executes) (law.kept world.cells later world.cells touched lock) none;
     }

@@ -9,4 +9,4 @@ returns-in-Some c =
     let number = c.in-Some.number in
     let at = c.in-Some.place in
     if_refused c.refused.result (λ r. r ≡ refusal Assemble number (Some at)) (λ r. IsToldAs c.args.refusal r)
-    (λ r same. record { number = number; at = at; told_as = sym c.numbered.ensures ∙ c.in-Some.is; told_is = same }) c.refused.ensures
+    (λ r same. record { number = number; at = at; told_as = sym c.refusal_number.ensures ∙ c.in-Some.is; told_is = same }) c.refused.ensures
