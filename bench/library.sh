@@ -1,6 +1,6 @@
 #!/usr/bin/env bash
 # Prints how many calls a second are validated by the program with one worker, and by the library for C (embed/), each as a whole process, as a table that can be pasted
-# into docs/BENCHMARKS.md; and how long a call across the border takes that has nothing to do. Each number is the best of five runs, one of each column in turn. It fails
+# into docs/BENCHMARKS.md; and how long a call across the border takes that has nothing to do. Each number is the best of nine runs, one of each column in turn. It fails
 # where one of the two does not accept the block. Run it anywhere in the repository, once `rt ci` has passed:
 #
 #   bench/library.sh [--quick]
