@@ -15,7 +15,7 @@ use std::alloc::{AllocError, Global};
 use std::str::from_utf8;
 use text_resolve::AsmRefusal;
 use wblock_modules::{
-    Found, count_functions, find_text, front_of, refusal_number, place_of_fault, spell,
+    Found, count_functions, find_text, front_of, place_of_fault, refusal_number, spell,
 };
 use wblock_words::text_words;
 
