@@ -1,5 +1,4 @@
 use Rattle.std.proofs.Common.{◌∙◌, length, sym, arith}
-use Rattle.std.proofs.lemmas.Slice.{between_from_start}
 use Rattle.foshqarel_c.proofs.Laying.{all_fit, as_many}
 use Rattle.foshqarel_c.proofs.buffers.lay.Goals as goal
 
@@ -7,7 +6,7 @@ pub returns-then-items-count : goal.returns-then-items-count
 returns-then-items-count g c =
     let items = c.args.items.now in
     let old = c.args.out.now in
-    c.copy_from_slice.ensures.after ∙ (between_from_start items (length old) ∙ sym (as_many items old (omega (arith, c.if-items-count.true))))
+    c.copy_from_slice.ensures.after ∙ sym (as_many items old (omega (arith, c.if-items-count.true)))
 
 pub returns : goal.returns
 returns g c = c.put_front.ensures ∙ sym (all_fit c.args.items.now c.args.out.now (omega (arith, c.if-items-count.false)))
