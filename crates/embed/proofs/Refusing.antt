@@ -1,5 +1,5 @@
 -- What a refusal tells follows from what was found.
-use Rattle.std.proofs.Common.{◌≡◌, ◌⊎◌, ⊎_elim, ℕ, List, Option, Some, None, false, inl, inr, sym}
+use Rattle.std.proofs.Common.{◌≡◌, ◌⊎◌, ⊎_elim, ℕ, List, Some, false, inl, inr, sym}
 use Rattle.std.proofs.lemmas.Option.{same_Some}
 use Rattle.spec_block.specs.Worlds.{Block}
 use Rattle.spec_block.specs.Bytes.{SpellsBlock}

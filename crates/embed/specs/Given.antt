@@ -1,5 +1,5 @@
 -- What is given of what was passed.
-use Rattle.std.specs.Prelude.{◌≡◌, ℕ, List, [], ◌∷◌, Option, Some, None, map, slice_get}
+use Rattle.std.specs.Prelude.{◌≡◌, ℕ, List, [], ◌∷◌, Some, None, map, slice_get}
 use Rattle.std.specs.FinMap.{entries, get}
 use Rattle.sha2.specs.Sha256.{sha256}
 use Rattle.spec_ledger.specs.declared.Version.TheVariants.{Two}

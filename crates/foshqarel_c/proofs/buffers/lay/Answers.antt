@@ -1,4 +1,4 @@
-use Rattle.std.proofs.Common.{◌∙◌, length, sym, arith}
+use Rattle.std.proofs.Common.{◌∙◌, sym, arith}
 use Rattle.foshqarel_c.proofs.Laying.{all_fit, as_many}
 use Rattle.foshqarel_c.proofs.buffers.lay.Goals as goal
 
