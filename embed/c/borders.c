@@ -2,7 +2,8 @@
  *
  *   - a buffer that is a byte too short is as it was, and the size is told;
  *   - behind what is given the buffer is as it was;
- *   - where the N-th request for memory is refused, for each N, the answer is FOSHQAREL_NO_MEMORY and the buffer is as it was, until one N is larger than all requests;
+ *   - where the N-th request for memory is refused, for each N, it alone or with all behind it, the answer is FOSHQAREL_NO_MEMORY and the buffers are as they were; or all
+ *     is as if none were refused, since a list that is sorted does without the room that it asked for;
  *   - eight threads that verify and produce at once each get the same bytes.
  *
  * It is linked with -Wl,--wrap=malloc,--wrap=realloc. The status is 0 where all is so, else the line says what is not. */
@@ -16,11 +17,18 @@
 #define MANY 8
 
 static __thread long refused_at = -1; /* which request is refused, counted down; none below 0 */
+static __thread int refuses_all;      /* whether those behind it are, too */
+static __thread long refusals;        /* how many were */
 
 void *__real_malloc(size_t size);
 void *__real_realloc(void *at, size_t size);
 
-static int is_refused(void) { return refused_at >= 0 && refused_at-- == 0; }
+static int is_refused(void) {
+    int is_first = refused_at >= 0 && refused_at-- == 0;
+    int is_next = refuses_all && refusals > 0;
+    refusals += is_first || is_next;
+    return is_first || is_next;
+}
 
 void *__wrap_malloc(size_t size) { return is_refused() ? NULL : __real_malloc(size); }
 void *__wrap_realloc(void *at, size_t size) { return is_refused() ? NULL : __real_realloc(at, size); }
@@ -100,19 +108,29 @@ int main(int count, char **words) {
     if (memcmp(out, block.at, block.size) || memcmp(after, next.at, next.size)) fail("another block is produced");
     if (!are(out + block.size, 100, 7) || !are(after + next.size, 100, 7)) fail("what stands behind two outputs was written to");
 
-    long requests = 0;
-    for (;; requests++) {
-        memset(out, 7, block.size + 100);
-        memset(after, 7, next.size + 100);
-        refused_at = requests;
-        uint32_t status = mine(out, block.size, after, next.size, &told);
-        int was_refused = refused_at < 0;
-        refused_at = -1;
-        if (!was_refused && status != FOSHQAREL_DONE) fail("refused without a cause");
-        if (!was_refused) break;
-        if (status != FOSHQAREL_NO_MEMORY) fail("a lack of memory is not told");
-        if (!are(out, block.size, 7) || !are(after, next.size, 7) || told.size || told.subject) fail("something is given without memory");
+    long requests = 0, without = 0;
+    for (int all = 0; all < 2; all++) {
+        for (requests = 0;; requests++) {
+            memset(out, 7, block.size + 100);
+            memset(after, 7, next.size + 100);
+            refused_at = requests;
+            refuses_all = all;
+            refusals = 0;
+            uint32_t status = mine(out, block.size, after, next.size, &told);
+            refused_at = -1;
+            refuses_all = 0;
+            if (status == FOSHQAREL_DONE) {
+                if (memcmp(out, block.at, block.size) || memcmp(after, next.at, next.size)) fail("something else is given where memory was refused");
+                if (!refusals) break;
+                without++;
+                continue;
+            }
+            if (!refusals) fail("refused without a cause");
+            if (status != FOSHQAREL_NO_MEMORY) fail("a lack of memory is not told");
+            if (!are(out, block.size, 7) || !are(after, next.size, 7) || told.size || told.subject) fail("something is given without memory");
+        }
     }
+    if (without > requests / 4) fail("most requests for memory are of no use");
 
     pthread_t threads[MANY];
     for (int i = 0; i < MANY; i++)
@@ -124,6 +142,6 @@ int main(int count, char **words) {
     }
     free(out);
     free(after);
-    printf("borders: all so, with %ld requests for memory refused\n", requests);
+    printf("borders: all so, with %ld requests for memory refused, of which %ld were done without\n", requests, without);
     return 0;
 }
