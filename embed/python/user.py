@@ -123,7 +123,8 @@ def main(words):
     if not words or words[0] not in COMMANDS:
         return 2
     try:
-        print("\n".join(COMMANDS[words[0]](*words[1:], **options)))
+        for line in COMMANDS[words[0]](*words[1:], **options):
+            print(line)
     except foshqarel.Refused as refused:
         print(refusal_line(refused))
         print(refused.sentence, file=sys.stderr)
