@@ -35,8 +35,8 @@ TOP = pathlib.Path(__file__).resolve().parent
 MAP = TOP / "docs/ARCHITECTURE.md"
 BEGIN, END = "<!-- map: written by house.py --map -->", "<!-- map: end -->"
 
-# What all documents have together at most, in bytes, without the parts that scripts write.
-ALL_BYTES = 200_000
+# What all documents have together at most, 200 KB, without the parts that scripts write.
+ALL_BYTES = 200 * 1_024
 # What each document has at most, in bytes.
 LIMITS = {
     "README.md": 4_500,
@@ -44,12 +44,12 @@ LIMITS = {
     "CHANGELOG.md": 7_500,
     "docs/ARCHITECTURE.md": 15_500,
     "docs/BENCHMARKS.md": 13_500,
-    "docs/DECISIONS.md": 27_500,
+    "docs/DECISIONS.md": 28_000,
     "docs/DEFINITIONS.md": 18_600,
-    "docs/GUIDE.md": 20_000,
+    "docs/GUIDE.md": 21_000,
     "docs/PROOFS.md": 7_500,
-    "docs/REFERENCE.md": 60_000,
-    "docs/STATUS.md": 9_000,
+    "docs/REFERENCE.md": 60_500,
+    "docs/STATUS.md": 9_500,
     "docs/WRONG_BODIES.md": 8_000,
 }
 # The median of the words of a document's sentences, and how many of them have more than 40.
