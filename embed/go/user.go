@@ -1,6 +1,7 @@
 // A user in Go, with the function of docs/GUIDE.md: USER WORLD CALLS BLOCK FUEL prints the world after the block where it is accepted.
 package main
 
+// #include <stdint.h>
 import "C"
 
 import (
