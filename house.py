@@ -35,8 +35,8 @@ TOP = pathlib.Path(__file__).resolve().parent
 MAP = TOP / "docs/ARCHITECTURE.md"
 BEGIN, END = "<!-- map: written by house.py --map -->", "<!-- map: end -->"
 
-# What all documents have together at most, 200 KB, without the parts that scripts write.
-ALL_BYTES = 200 * 1_024
+# What all documents have together at most, in bytes, without the parts that scripts write.
+ALL_BYTES = 200_000
 # What each document has at most, in bytes.
 LIMITS = {
     "README.md": 4_500,
