@@ -11,7 +11,7 @@ use Rattle.spec_block.specs.Verdicts.{Verdict, Accept, Malformed, WrongWorld, Wr
 use Rattle.world.specs.Views.{contract_view, world_view}
 use Rattle.wblock_calls.specs.Words.{texts}
 use Rattle.wblock_io.specs.Holding.{Holding, Changes}
-use Rattle.wblock_line.specs.Answers.{EndsLine, Upshot, Written, Wrote, WroteSome, file_line, sentence_line, write_of}
+use Rattle.wblock_line.specs.Answers.{EndsLine, IsOneOf, Upshot, Written, Wrote, WroteBefore, WroteSome, file_line, sentence_line, write_of}
 use Rattle.wblock_line.specs.Inputs.{HoldsWorld}
 use Rattle.wblock_line.specs.Words.{Line, split}
 use Rattle.wblock_line.specs.Transitions.{WritesBeside, leaving, next_write}
@@ -31,7 +31,7 @@ use Rattle.wblock_call.specs.declared.called.Calling.{Calling}
 use Rattle.wblock_modules.specs.Deploys.{AreHeld, Deploys, Extends, IsDeployedText, IsDone, IsOld, IsReadBehind, extended}
 use Rattle.wblock_modules.specs.Objects.{deployed_data}
 use Rattle.wblock_modules.specs.declared.deploy.Modules.TheVariants as modules
-use Rattle.wblock_commands.specs.Does.{ComesTo, Reads}
+use Rattle.wblock_commands.specs.Does.{Reads}
 use Rattle.wblock_commands.specs.declared.command.Command.{Command}
 use Rattle.wblock_commands.specs.declared.command.Command.TheVariants.{Stored, Help, Version, Asm, Text, Check, Deploy, Mine, Validate, Call, Debug, Show}
 use Rattle.wblock_commands.specs.declared.command.Deploying.{Deploying}
@@ -39,7 +39,7 @@ use Rattle.wblock_chain.specs.Answered.{AnswersAsked, AnswersLine, AnswersWords,
 use Rattle.wblock_chain.specs.Plans.{FitsBeside, IsNoted, IsPlan, most_beside}
 use Rattle.wblock_chain.specs.Replies.{block_line, digest_line, saved_line}
 use Rattle.wblock_chain.specs.Requests.{AreShort}
-use Rattle.wblock_chain.specs.Sessions.{Exchange, IsKeptName, IsQuit, Session, TellsBlock, Uses, standing, text_of_calls}
+use Rattle.wblock_chain.specs.Sessions.{ComesTo, Exchange, IsKeptName, IsQuit, Session, TellsBlock, Uses, standing, text_of_calls}
 use Rattle.wblock_chain.specs.Words.{Asks, IsAsked, IsOver, calls_here, named, told_block}
 use Rattle.wblock_chain.specs.declared.asked.SessionCommand.{SessionCommand}
 use Rattle.wblock_chain.specs.declared.asked.SessionCommand.TheVariants.{Single, Save, Digest, Quit}
@@ -509,18 +509,31 @@ goes_on_with json name base contracts change a none done moves =
 -- ---- what is carried out, or undone
 
 -- where at most one file is to be written and one failed, none was written
-only_first : (name : List ℕ) (files : List Written) (old new : Holding) → length files ≤ 1 → WroteSome name files old new → new ≡ old
-only_first name [] old new few some = absurd some
-only_first name (v ∷ []) old new few (inl first) = first.1
-only_first name (v ∷ []) old new few (inr more) = absurd more.2
-only_first name (v ∷ w ∷ vs) old new few some = absurd (omega (arith, few))
+none_before : (name : List ℕ) (files : List Written) (old new : Holding) → length files ≤ 1 → WroteBefore name files old new → new ≡ old
+none_before name [] old new few before = absurd before
+none_before name (v ∷ []) old new few (inl first) = first.1
+none_before name (v ∷ []) old new few (inr more) = absurd more.2
+none_before name (v ∷ w ∷ vs) old new few before = absurd (omega (arith, few))
+
+pub only_first : (name : List ℕ) (files : List Written) (old new : Holding) → length files ≤ 1 → WroteSome name files old new → new ≡ old
+only_first name files old new few (inl none) = none.1
+only_first name files old new few (inr before) = none_before name files old new few before
 
 -- it is the first of the writes
+names_one : (name : List ℕ) (files : List Written) (old new : Holding) → WroteBefore name files old new → IsOneOf name files
+names_one name [] old new before = before
+names_one name (v ∷ vs) old new (inl first) = inl first.0
+names_one name (v ∷ vs) old new (inr more) = inr (names_one name vs more.0 new more.2)
+
+one_of_first : (name : List ℕ) (files : List Written) → length files ≤ 1 → IsOneOf name files → (bytes : List ℕ) × (files ≡ (name, bytes) ∷ [])
+one_of_first name [] few one = absurd one
+one_of_first name (v ∷ []) few (inl same) = (v.1, ap (λ (n : List ℕ). (n, v.1) ∷ []) (sym same))
+one_of_first name (v ∷ []) few (inr more) = absurd more
+one_of_first name (v ∷ w ∷ vs) few one = absurd (omega (arith, few))
+
 is_first : (name : List ℕ) (files : List Written) (old new : Holding) → length files ≤ 1 → WroteSome name files old new → (bytes : List ℕ) × (files ≡ (name, bytes) ∷ [])
-is_first name [] old new few some = absurd some
-is_first name (v ∷ []) old new few (inl first) = (v.1, ap (λ (n : List ℕ). (n, v.1) ∷ []) (sym first.0))
-is_first name (v ∷ []) old new few (inr more) = absurd more.2
-is_first name (v ∷ w ∷ vs) old new few some = absurd (omega (arith, few))
+is_first name files old new few (inl none) = one_of_first name files few none.0
+is_first name files old new few (inr before) = one_of_first name files few (names_one name files old new before)
 
 -- a block that is told leaves no file to be written
 few_files : (writes : List Written) (block : Option (List ℕ)) (files : List Written) → length writes ≤ 1 → AreApart writes block files → length files ≤ 1
@@ -547,6 +560,14 @@ undone change block files name old new w a few apart some reply =
       same = nothing_written change block files name old new few apart some;
       reply = reply;
     }
+
+-- one file was written
+pub wrote_one : (file bytes : List ℕ) (old new : Holding) → Wrote ((file, bytes) ∷ []) old new → Changes old new file bytes
+wrote_one file bytes old new wrote = subst (λ (h : Holding). Changes old h file bytes) (sym wrote.2) wrote.1
+
+-- where one file was to be written and one failed, none was written
+pub wrote_none : (file bytes name : List ℕ) (old new : Holding) → WroteSome name ((file, bytes) ∷ []) old new → new ≡ old
+wrote_none file bytes name old new some = only_first name ((file, bytes) ∷ []) old new (omega arith) some
 
 -- an answer of other, equal parts
 pub moved : (w : World) (text told said why : List ℕ) (s : Status) (a : Answered) → text ≡ told → said ≡ why → MovesOn w text said s a → MovesOn w told why s a

@@ -28,7 +28,7 @@ use Rattle.wblock_call.specs.declared.called.Calling.{Calling}
 use Rattle.wblock_modules.specs.Deploys.{AreHeld, Holds, IsBase, IsNextModule, IsOld, IsReadBehind, TellsRefusal}
 use Rattle.wblock_modules.specs.declared.deploy.Modules.TheVariants as modules
 use Rattle.wblock_commands.specs.Deploying.{IsFree}
-use Rattle.wblock_commands.specs.Does.{ComesTo, Reads}
+use Rattle.wblock_commands.specs.Does.{Reads}
 use Rattle.wblock_commands.specs.Words.{IsApart}
 use Rattle.wblock_commands.specs.declared.command.Command.{Command}
 use Rattle.wblock_commands.specs.declared.command.Command.TheVariants.{Stored, Help, Version, Asm, Text, Check, Deploy, Mine, Validate, Call, Debug, Show}
@@ -36,7 +36,7 @@ use Rattle.wblock_commands.specs.declared.command.Deploying.{Deploying}
 use Rattle.wblock_chain.specs.declared.plan.Plan.{Plan}
 use Rattle.wblock_chain.specs.declared.plan.Plan.TheVariants.{Made, Linked}
 use Rattle.wblock_chain.specs.Plans.{FitsBeside, FitsOne, IsPlan, IsPlanned, most_beside}
-use Rattle.wblock_chain.specs.Sessions.{standing}
+use Rattle.wblock_chain.specs.Sessions.{ComesTo, standing}
 use Rattle.wblock_chain.specs.Words.{IsOver}
 use Rattle.wblock_chain.proofs.Standing.{at_lone, at_other, at_world, held_world}
 
@@ -116,7 +116,7 @@ reads_block name w behind files task text file calls spelled over held is few sa
 
 -- ---- call
 
-pub called : (w : World) (task : Calling) (u : Upshot) (holds : Holding) → SpellsWorld (world_bytes w) w → TellsExecution task.json w task.call u → holds task.world.now ≡ Some (world_bytes w) → Calls holds task u
+pub called : (w : World) (task : Calling) (u : Upshot) (holds : Holding) → SpellsWorld (world_bytes w) w → TellsExecution task.style w task.call u → holds task.world.now ≡ Some (world_bytes w) → Calls holds task u
 called w task u holds spelled tells held = inr (record { world = w; held = record { bytes = world_bytes w; held = held; is = spelled }; tells = tells })
 
 -- ---- deploy

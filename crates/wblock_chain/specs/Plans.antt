@@ -11,12 +11,12 @@ use Rattle.wblock_line.specs.Words.{Line, split}
 use Rattle.wblock_modules.specs.Deploys.{IsReadBehind}
 use Rattle.wblock_modules.specs.declared.deploy.Modules.TheVariants as modules
 use Rattle.spec_block.specs.Worlds.{World}
-use Rattle.wblock_commands.specs.Does.{ComesTo}
 use Rattle.wblock_commands.specs.declared.command.Command.{Command}
 use Rattle.wblock_commands.specs.declared.command.Command.TheVariants.{Deploy, Mine}
 use Rattle.wblock_commands.specs.declared.command.Deploying.{Deploying}
 use Rattle.wblock_chain.specs.declared.asked.SessionCommand.{SessionCommand}
 use Rattle.wblock_chain.specs.declared.asked.SessionCommand.TheVariants.{Single, Save, Digest, Quit}
+use Rattle.wblock_chain.specs.Sessions.{ComesTo}
 use Rattle.wblock_chain.specs.Words.{IsAsked}
 use Rattle.wblock_chain.specs.declared.plan.Plan.{Plan}
 use Rattle.wblock_chain.specs.declared.plan.Plan.TheVariants.{Made, Linked}

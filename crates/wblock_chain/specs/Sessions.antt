@@ -11,9 +11,13 @@ use Rattle.wblock_line.specs.Inputs.{Holds, HoldsWorld}
 use Rattle.wblock_line.specs.Worlds.{TellsNoWorld}
 use Rattle.wblock_line.specs.declared.perform.Status.{Status}
 use Rattle.wblock_line.specs.declared.perform.Status.TheVariants as status
-use Rattle.wblock_commands.specs.Does.{ComesTo, Reads}
+use Rattle.wblock_blocks.specs.Mines.{Mines}
+use Rattle.wblock_blocks.specs.Validates.{Validates}
+use Rattle.wblock_call.specs.Calling.{Calls}
+use Rattle.wblock_commands.specs.Deploying.{DeploysFree}
+use Rattle.wblock_commands.specs.Does.{Reads}
 use Rattle.wblock_commands.specs.declared.command.Command.{Command}
-use Rattle.wblock_commands.specs.declared.command.Command.TheVariants.{Mine}
+use Rattle.wblock_commands.specs.declared.command.Command.TheVariants.{Deploy, Mine, Validate, Call}
 use Rattle.wblock_chain.specs.declared.asked.SessionCommand.{SessionCommand}
 use Rattle.wblock_chain.specs.declared.asked.SessionCommand.TheVariants.{Single, Save, Digest, Quit}
 use Rattle.wblock_chain.specs.Replies.{block_line, digest_line, reply, saved_line}
@@ -82,6 +86,14 @@ TellsBlock (Mine task) = task.block.now ≡ told_block
 TellsBlock c = ⊥
 
 -- ---- one line
+
+-- what a command over a world comes to: the definition of the single command
+abbrev pub ComesTo : Command → Holding → Upshot → Type 0
+ComesTo (Deploy task) holds u = DeploysFree task holds u
+ComesTo (Mine task) holds u = Mines holds task u
+ComesTo (Validate task) holds u = Validates holds task u
+ComesTo (Call task) holds u = Calls holds task u
+ComesTo c holds u = ⊥
 
 -- A single command came to this over the files that stand: its write of WORLD is the session's next world, and every other one is of a file, or is told.
 pub record DoesSingle (name : List ℕ) (c : Command) (e : Exchange) (old new : Session) : Type 0 where

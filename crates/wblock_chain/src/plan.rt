@@ -202,7 +202,7 @@ fn plan_call<'w>(alloc: Global, world: &World, task: &Calling<'w>) -> Result<Pla
     ensures fault { IfErr result (λ f. f ≡ Fault.NoMemory) }
 {
     world.is_spelled();
-    match call_over(alloc, task.json, world, &task.call) {
+    match call_over(alloc, task.style, world, &task.call) {
         Ok(answer) => Ok(Plan::Made(transition_of(alloc, answer))),
         Err(NoMemory) => Err(Fault::NoMemory),
     }

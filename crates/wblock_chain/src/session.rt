@@ -28,7 +28,7 @@ use std::alloc::{AllocError, Global};
 use std::sync::Wait;
 use std::thread::Threads;
 use wblock_commands::Command;
-use wblock_io::{Cause, Files, LineFault, Lines, WriteFault, write_file};
+use wblock_io::{Cause, Files, LineFault, Lines};
 use wblock_line::{
     Change, Fault, Line, NextWorld, Status, Transition, WorldFile, Write, is_word, read_world_file,
     split_words, tell_fault, write_files,
@@ -188,14 +188,15 @@ fn settle<'w, F: Files>(
     } = change;
     let (block, writes) = told_apart(writes);
     let reply = reply_with_block(alloc, text.as_str(), &block, note.as_str())?;
-    if let Err((name, cause)) = write_files(files, writes.as_slice()) {
-        return failed(alloc, world, name, cause);
+    match write_files(files, writes.as_slice()) {
+        Ok(()) => Ok(Answered {
+            world: world_after(next, world),
+            reply,
+            quits: false,
+        }),
+        Err(Fault::File(file, cause)) => failed(alloc, world, file, cause),
+        Err(Fault::NoMemory) => Err(NoMemory),
     }
-    Ok(Answered {
-        world: world_after(next, world),
-        reply,
-        quits: false,
-    })
 }
 
 /// Does what a transition says, or tells why it is refused.
@@ -279,6 +280,15 @@ fn answer_single<'l, 'w, R: Threads + Wait + Sync, F: Files, P: Pace>(
     }
 }
 
+/// The one file that is to be written.
+fn one_write<'w>(alloc: Global, name: &'w str, bytes: Vec<u8>) -> Result<Vec<Write<'w>>, AllocError>
+    ensures { IfOk result (λ writes. map write_of writes.items ≡ (name.entry.now, bytes.entry.items) ∷ []) }
+{
+    let mut writes = Vec::new(alloc);
+    writes.push(Write { name, bytes })?;
+    Ok(writes)
+}
+
 /// The answer to `save FILE`.
 fn answer_save<F: Files>(
     alloc: Global,
@@ -290,15 +300,16 @@ fn answer_save<F: Files>(
     ensures kept { OnErr result (IsTrue F.tells → F.holds files.new ≡ F.holds files.old) }
 {
     let bytes = encode_world(alloc, &world)?;
-    let saved = bytes.as_slice();
-    let reply = saved_reply_of(alloc, saved)?;
-    match write_file(files, file, saved) {
+    let reply = saved_reply_of(alloc, bytes.as_slice())?;
+    let writes = one_write(alloc, file, bytes)?;
+    match write_files(files, writes.as_slice()) {
         Ok(()) => Ok(Answered {
             world,
             reply,
             quits: false,
         }),
-        Err(WriteFault(cause)) => failed(alloc, world, file, cause),
+        Err(Fault::File(_file, cause)) => failed(alloc, world, file, cause),
+        Err(Fault::NoMemory) => Err(NoMemory),
     }
 }
 

@@ -10,9 +10,9 @@ use Rattle.wblock_chain.specs.Plans.{FitsBeside, IsNoted, IsPlan}
 use Rattle.wblock_line.specs.FaultLaws.{of_file_weaker}
 use Rattle.wblock_line.specs.Transitions.{WritesBeside, leaving, note_in}
 use Rattle.wblock_blocks.specs.Validates.{ValidatesOver}
-use Rattle.wblock_commands.specs.Does.{ComesTo, Reads}
+use Rattle.wblock_commands.specs.Does.{Reads}
 use Rattle.wblock_commands.specs.declared.command.Command.TheVariants.{Validate}
-use Rattle.wblock_chain.specs.Sessions.{standing}
+use Rattle.wblock_chain.specs.Sessions.{ComesTo, standing}
 use Rattle.wblock_chain.proofs.Planning.{as_planned, fits, no_calls_to_validate, reads_block, reads_calls, validated}
 use Rattle.wblock_chain.proofs.plan.plan_validate.Goals as goal
 
