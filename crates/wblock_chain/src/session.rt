@@ -422,17 +422,8 @@ fn answer_text<R: Threads + Wait + Sync, F: Files, P: Pace>(
     ensures answer { IfOk result (λ a. IsTrue F.tells → AnswersText name.now text.now (option_map (λ text. text.items) behind) (F.holds files.old) (F.holds files.new) (world_view world) a) }
     ensures kept { OnErr result (IsTrue F.tells → F.holds files.new ≡ F.holds files.old) }
 {
-    let words = line_words(alloc, text)?;
-    answer_words(
-        rt,
-        alloc,
-        files,
-        name,
-        world,
-        words.as_slice(),
-        behind,
-        pace,
-    )
+    let line = line_words(alloc, text)?;
+    answer_words(rt, alloc, files, name, world, line.as_slice(), behind, pace)
 }
 
 /// The answer to a line with the calls behind it.

@@ -6,7 +6,7 @@ use Rattle.wblock_chain.proofs.Asking.{are_lone_words}
 use Rattle.wblock_chain.proofs.session.answer_text.Goals as goal
 
 pub answer_words-requires : goal.answer_words-requires
-answer_words-requires g c = are_lone_words c.args.name.now (words_of c.args.text.now) (texts c.as_slice.result.now) (option_map (λ b. b.items) c.args.behind) c.requires (ap texts c.as_slice.ensures.value ∙ c.in_ok-words.ensures)
+answer_words-requires g c = are_lone_words c.args.name.now (words_of c.args.text.now) (texts c.as_slice.result.now) (option_map (λ b. b.items) c.args.behind) c.requires (ap texts c.as_slice.ensures.value ∙ c.in_ok-line.ensures)
 
 pub returns-clause-answer : goal.returns-clause-answer
-returns-clause-answer g c = IfOk-weaker c.answer_words.result _ _ (λ a answers t. answers t c.args.text.now c.utf8.text (sym (ap texts c.as_slice.ensures.value ∙ c.in_ok-words.ensures))) c.answer_words.ensures.answer
+returns-clause-answer g c = IfOk-weaker c.answer_words.result _ _ (λ a answers t. answers t c.args.text.now c.utf8.text (sym (ap texts c.as_slice.ensures.value ∙ c.in_ok-line.ensures))) c.answer_words.ensures.answer
