@@ -302,7 +302,7 @@ written_over name c calls old new w next file bytes left no_world no_calls untol
   kept_names = kept name old new file bytes no_world no_calls untold changes;
 }
 
-one_written : (old new : Holding) (file bytes : List ℕ) → Wrote ((file, bytes) ∷ []) old new → Changes old new file bytes
+pub one_written : (old new : Holding) (file bytes : List ℕ) → Wrote ((file, bytes) ∷ []) old new → Changes old new file bytes
 one_written old new file bytes wrote = subst (λ (h : Holding). Changes old h file bytes) (sym wrote.2) wrote.1
 
 one_block : (name : List ℕ) (c : Command) (calls : Option (List ℕ)) (old new : Holding) (w : World) (next : Option NextWorld) (block : Option (List ℕ)) (files : List Written) (file bytes : List ℕ) → IfSome next (λ n. n.name.now ≡ name)
@@ -515,7 +515,7 @@ none_before name (v ∷ []) old new few (inl first) = first.1
 none_before name (v ∷ []) old new few (inr more) = absurd more.2
 none_before name (v ∷ w ∷ vs) old new few before = absurd (omega (arith, few))
 
-pub only_first : (name : List ℕ) (files : List Written) (old new : Holding) → length files ≤ 1 → WroteSome name files old new → new ≡ old
+only_first : (name : List ℕ) (files : List Written) (old new : Holding) → length files ≤ 1 → WroteSome name files old new → new ≡ old
 only_first name files old new few (inl none) = none.1
 only_first name files old new few (inr before) = none_before name files old new few before
 
@@ -560,10 +560,6 @@ undone change block files name old new w a few apart some reply =
       same = nothing_written change block files name old new few apart some;
       reply = reply;
     }
-
--- one file was written
-pub wrote_one : (file bytes : List ℕ) (old new : Holding) → Wrote ((file, bytes) ∷ []) old new → Changes old new file bytes
-wrote_one file bytes old new wrote = subst (λ (h : Holding). Changes old h file bytes) (sym wrote.2) wrote.1
 
 -- where one file was to be written and one failed, none was written
 pub wrote_none : (file bytes name : List ℕ) (old new : Holding) → WroteSome name ((file, bytes) ∷ []) old new → new ≡ old

@@ -5,7 +5,7 @@ use Rattle.wblock_line.specs.Answers.{Written, Wrote, WroteSome, write_of}
 use Rattle.wblock_line.specs.declared.answer.Write.{Write}
 use Rattle.wblock_line.specs.declared.perform.Status.TheVariants as status
 use Rattle.wblock_chain.specs.Replies.{reply, saved_line}
-use Rattle.wblock_chain.proofs.Answering.{on_err, wrote_none, wrote_one}
+use Rattle.wblock_chain.proofs.Answering.{on_err, one_written, wrote_none}
 use Rattle.wblock_chain.proofs.session.answer_save.Goals as goal
 
 pub returns-in-Ok-clause-saved : goal.returns-in-Ok-clause-saved
@@ -15,7 +15,7 @@ returns-in-Ok-clause-saved g c = λ t.
     let file = c.args.file.now in
     let wrote = subst (λ (ws : List Written). Wrote ws old new) c.in_ok-writes.ensures (subst (λ (ws : List Write). Wrote (map write_of ws) old new) c.as_slice-2.ensures.value (c.in-Ok.ensures.wrote t)) in
     inl (record {
-      changes = subst (λ (b : List ℕ). Changes old new file b) c.in_ok-bytes.ensures (wrote_one file c.in_ok-bytes.bytes.items old new wrote);
+      changes = subst (λ (b : List ℕ). Changes old new file b) c.in_ok-bytes.ensures (one_written old new file c.in_ok-bytes.bytes.items wrote);
       moves = record { world_is = refl; reply_is = c.in_ok-reply.ensures ∙ ap (λ (b : List ℕ). reply (saved_line (length b)) [] status.Done) (c.as_slice.ensures.value ∙ c.in_ok-bytes.ensures); goes_on = refl };
     })
 
