@@ -35,8 +35,8 @@ returns-then-not-asks-clause-read g c = λ t.
     let old = g.L.Lines.coming c.args.lines.now in
     let new = g.L.Lines.coming c.next_line.new.self in
     let found = subst (λ (n : NextLine). IsNextLine old n new) c.in-Line.is (c.in_ok-next_line.ensures.next t) in
-    let line = text_line c.in-Ok.text c.in-Line.line c.as_str.result.now c.in-Ok-2.asks old new (ap (λ (v : Vec ℕ Global). v.items) c.in-Ok.ensures.ok) c.as_str.ensures.value found c.in-Ok-2.ensures in
-    text_alone c.in-Ok.text c.in-Ok-2.asks old new line c.if-not-asks.true
+    let line = text_line c.in-Ok.text c.in-Line.line c.as_str.result.now c.in-Ok-asks_calls.asks old new (ap (λ (v : Vec ℕ Global). v.items) c.in-Ok.ensures.ok) c.as_str.ensures.value found c.in-Ok-asks_calls.ensures in
+    text_alone c.in-Ok.text c.in-Ok-asks_calls.asks old new line c.if-not-asks.true
 
 pub returns-in-Text-clause-read : goal.returns-in-Text-clause-read
 returns-in-Text-clause-read g c = λ t.
@@ -44,11 +44,11 @@ returns-in-Text-clause-read g c = λ t.
     let mid = g.L.Lines.coming c.next_line.new.self in
     let new = g.L.Lines.coming c.read_calls.new.lines in
     let found = subst (λ (n : NextLine). IsNextLine old n mid) c.in-Line.is (c.in_ok-next_line.ensures.next t) in
-    let line = text_line c.in-Ok.text c.in-Line.line c.as_str.result.now c.in-Ok-2.asks old mid (ap (λ (v : Vec ℕ Global). v.items) c.in-Ok.ensures.ok) c.as_str.ensures.value found c.in-Ok-2.ensures in
-    text_asking c.in-Ok.text c.in-Text.calls c.in-Ok-2.asks old mid new line c.if-not-asks.false (subst (λ (r : CallsRead). IsCallsRead mid r new) c.in-Text.is (c.in_ok-calls.ensures.read t))
+    let line = text_line c.in-Ok.text c.in-Line.line c.as_str.result.now c.in-Ok-asks_calls.asks old mid (ap (λ (v : Vec ℕ Global). v.items) c.in-Ok.ensures.ok) c.as_str.ensures.value found c.in-Ok-asks_calls.ensures in
+    text_asking c.in-Ok.text c.in-Text.calls c.in-Ok-asks_calls.asks old mid new line c.if-not-asks.false (subst (λ (r : CallsRead). IsCallsRead mid r new) c.in-Text.is (c.in_ok-calls.ensures.read t))
 
 pub returns-in-Text-clause-asked : goal.returns-in-Text-clause-asked
-returns-in-Text-clause-asked g c = sym (c.in-Ok-2.ensures ∙ ap (λ (b : List ℕ). takes_calls (words_of b)) c.as_str.ensures.value) ∙ c.if-not-asks.false
+returns-in-Text-clause-asked g c = sym (c.in-Ok-asks_calls.ensures ∙ ap (λ (b : List ℕ). takes_calls (words_of b)) c.as_str.ensures.value) ∙ c.if-not-asks.false
 
 pub returns-in-TooLong-2-clause-read : goal.returns-in-TooLong-2-clause-read
 returns-in-TooLong-2-clause-read g c = λ t.
@@ -56,8 +56,8 @@ returns-in-TooLong-2-clause-read g c = λ t.
     let mid = g.L.Lines.coming c.next_line.new.self in
     let new = g.L.Lines.coming c.read_calls.new.lines in
     let found = subst (λ (n : NextLine). IsNextLine old n mid) c.in-Line.is (c.in_ok-next_line.ensures.next t) in
-    let line = text_line c.in-Ok.text c.in-Line.line c.as_str.result.now c.in-Ok-2.asks old mid (ap (λ (v : Vec ℕ Global). v.items) c.in-Ok.ensures.ok) c.as_str.ensures.value found c.in-Ok-2.ensures in
-    text_too_long c.in-Ok.text c.in-Ok-2.asks old mid new line c.if-not-asks.false (subst (λ (r : CallsRead). IsCallsRead mid r new) c.in-TooLong-2.is (c.in_ok-calls.ensures.read t))
+    let line = text_line c.in-Ok.text c.in-Line.line c.as_str.result.now c.in-Ok-asks_calls.asks old mid (ap (λ (v : Vec ℕ Global). v.items) c.in-Ok.ensures.ok) c.as_str.ensures.value found c.in-Ok-asks_calls.ensures in
+    text_too_long c.in-Ok.text c.in-Ok-asks_calls.asks old mid new line c.if-not-asks.false (subst (λ (r : CallsRead). IsCallsRead mid r new) c.in-TooLong-2.is (c.in_ok-calls.ensures.read t))
 
 pub returns-in-Unfinished-clause-read : goal.returns-in-Unfinished-clause-read
 returns-in-Unfinished-clause-read g c = λ t.
@@ -65,5 +65,5 @@ returns-in-Unfinished-clause-read g c = λ t.
     let mid = g.L.Lines.coming c.next_line.new.self in
     let new = g.L.Lines.coming c.read_calls.new.lines in
     let found = subst (λ (n : NextLine). IsNextLine old n mid) c.in-Line.is (c.in_ok-next_line.ensures.next t) in
-    let line = text_line c.in-Ok.text c.in-Line.line c.as_str.result.now c.in-Ok-2.asks old mid (ap (λ (v : Vec ℕ Global). v.items) c.in-Ok.ensures.ok) c.as_str.ensures.value found c.in-Ok-2.ensures in
-    text_unended c.in-Ok.text c.in-Ok-2.asks old mid new line c.if-not-asks.false (subst (λ (r : CallsRead). IsCallsRead mid r new) c.in-Unfinished.is (c.in_ok-calls.ensures.read t))
+    let line = text_line c.in-Ok.text c.in-Line.line c.as_str.result.now c.in-Ok-asks_calls.asks old mid (ap (λ (v : Vec ℕ Global). v.items) c.in-Ok.ensures.ok) c.as_str.ensures.value found c.in-Ok-asks_calls.ensures in
+    text_unended c.in-Ok.text c.in-Ok-asks_calls.asks old mid new line c.if-not-asks.false (subst (λ (r : CallsRead). IsCallsRead mid r new) c.in-Unfinished.is (c.in_ok-calls.ensures.read t))
