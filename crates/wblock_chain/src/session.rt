@@ -282,7 +282,7 @@ fn answer_single<'l, 'w, R: Threads + Wait + Sync, F: Files, P: Pace>(
 
 /// The one file that is to be written.
 fn one_write<'w>(alloc: Global, name: &'w str, bytes: Vec<u8>) -> Result<Vec<Write<'w>>, AllocError>
-    ensures { IfOk result (λ writes. map write_of writes.items ≡ (name.entry.now, bytes.entry.items) ∷ []) }
+    ensures { IfOk result (λ writes. map write_of writes.items ≡ (name.entry.now, bytes.items) ∷ []) }
 {
     let mut writes = Vec::new(alloc);
     writes.push(Write { name, bytes })?;
