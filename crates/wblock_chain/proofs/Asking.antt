@@ -176,7 +176,8 @@ has_options os b is e none =
     let count = length-map os.items (λ (o : Bor (List ℕ) × Bor (List ℕ)). (o.0.now, o.1.now)) in
     let zeros = ap (λ (cs : List Choice). length cs) none in
     let empty : vec_len os ≡ 0 = omega (arith, size, count, zeros) in
-    both_ways (vec_len os == 0) (sym is ∙ e) (ap (λ (n : ℕ). n == 0) empty)
+    let never : (0 == 0) ≡ false = sym (ap (λ (n : ℕ). n == 0) empty) ∙ (sym is ∙ e) in
+    absurd cc
 
 -- ---- calls behind a line that deploys
 

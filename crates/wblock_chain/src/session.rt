@@ -92,7 +92,8 @@ fn file_line_of(alloc: Global, name: &str) -> Result<String, AllocError>
 fn file_lines_of(alloc: Global, name: &str, why: &str) -> Result<String, AllocError>
     ensures { IfOk result (λ said. string_bytes said ≡ file_line name.now ++ (why.now ++ 10 ∷ [])) }
 {
-    format!(in alloc; "file {name}\n{why}\n")
+    let line = file_line_of(alloc, name)?;
+    format!(in alloc; "{line}{why}\n")
 }
 
 /// What is said of a file that failed: `file NAME`, and in a line behind it why, where that is known.
