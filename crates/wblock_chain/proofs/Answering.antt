@@ -361,8 +361,8 @@ done : (name line : List ℕ) (calls : Option (List (List ℕ))) (c : Command) (
     → vec_len change.writes ≤ most_beside c → IsNoted (Made (transition.Done change)) → Settles change old new w a → Gets name line calls old new w a
 done name line calls c old new w change a asks over comes few noted (inl out) = carried name line calls c old new w change a asks over comes few noted out
 done name line calls c old new w change a asks over comes few noted (inr undone) =
-    let written = (undone.bytes, undone.others ++ next_write change.next, ap (λ (ws : List Written). ws ++ next_write change.next) undone.writes) in
-    fails name line calls (Single c) old new w undone.file a asks undone.same (inr (leaving (transition.Done change), comes, written)) undone.reply
+    fails name line calls (Single c) old new w undone.file a asks undone.same
+    (inr (leaving (transition.Done change), comes, (undone.bytes, undone.others ++ next_write change.next, ap (λ (ws : List Written). ws ++ next_write change.next) undone.writes))) undone.reply
 
 refused : (name line : List ℕ) (calls : Option (List (List ℕ))) (c : Command) (old new : Holding) (w : World) (told why : String Global) (a : Answered) → Asks name line (Single c) → ComesTo c (standing name w (text_of_calls calls) None old) (leaving (transition.Refused told why)) → new ≡ old
     → MovesOn w (string_bytes told) (string_bytes why ++ 10 ∷ []) status.Refused a → Gets name line calls old new w a

@@ -173,7 +173,7 @@ nothing_own line save digest quit Quit is = quit is.0 is.1
 pub has_options : (os : Vec (Bor (List ℕ) × Bor (List ℕ)) Global) (b : Bool) → b ≡ (vec_len os == 0) → b ≡ false → choices os.items ≡ [] → ⊥
 has_options os b is e none =
     let size = os.ok.0 in
-    let count = length-map os.items (λ (o : Bor (List ℕ) × Bor (List ℕ)). (o.0.now, o.1.now)) in
+    let count = length-map {B = Choice} os.items (λ (o : Bor (List ℕ) × Bor (List ℕ)). (o.0.now, o.1.now)) in
     let zeros = ap (λ (cs : List Choice). length cs) none in
     let empty : vec_len os ≡ 0 = omega (arith, size, count, zeros) in
     let never : (0 == 0) ≡ false = sym (ap (λ (n : ℕ). n == 0) empty) ∙ (sym is ∙ e) in
