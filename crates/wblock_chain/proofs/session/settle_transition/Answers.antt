@@ -11,13 +11,13 @@ settle-requires g c = rw c.in-Done.is at c.requires
 pub returns-in-Done-clause-settles : goal.returns-in-Done-clause-settles
 returns-in-Done-clause-settles g c = rw c.in-Done.is c.settle.ensures.settles
 
-pub returns-in-Refused-clause-settles : goal.returns-in-Refused-clause-settles
-returns-in-Refused-clause-settles g c =
+pub returns-clause-settles : goal.returns-clause-settles
+returns-clause-settles g c =
     rw c.in-Refused.is
     (IfOk-weaker c.answer_with.result _ _ (λ a moves t. (
       refl,
       moved (world_view c.args.world) c.as_str-in-Refused.result.now (string_bytes c.in-Refused.line) c.as_str-in-Refused-2.result.now (string_bytes c.in-Refused.why ++ 10 ∷ []) status.Refused a c.as_str-in-Refused.ensures.value (c.as_str-in-Refused-2.ensures.value ∙ (c.in_ok-said.ensures ∙ ap (λ (b : List ℕ). b ++ 10 ∷ []) c.as_str.ensures.value)) moves,
     )) c.answer_with.ensures)
 
-pub returns-in-Refused-clause-kept : goal.returns-in-Refused-clause-kept
-returns-in-Refused-clause-kept g c = on_err c.answer_with.result _ (λ t. refl)
+pub returns-clause-kept : goal.returns-clause-kept
+returns-clause-kept g c = on_err c.answer_with.result _ (λ t. refl)
