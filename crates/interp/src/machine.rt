@@ -24,7 +24,7 @@ use interp_state::callee::Callee;
 use interp_state::waiting::prepare;
 use laws_soundness::deployed_calls_are_safe;
 use link::deployed::Deployed;
-use spec_ledger::{NoMemory, Outcome, Reply, Version};
+use spec_ledger::{Outcome, Reply, Version};
 use std::alloc::Allocator;
 use std::marker::Model;
 
@@ -143,6 +143,7 @@ impl<'a, A: Allocator + Copy> Machine<'a, A> {
     ghost use Rattle.interp.specs.Callee.{setting_view};
     ghost use Rattle.interp.specs.Progress.{IsStartOf, IsProgress};
     ghost use Rattle.interp.specs.Starting.{IsRefusedFor, HasPlace, wrong_in};
+    ghost use Rattle.interp.specs.declared.start.StartRefusal.{StartRefusal};
 
     /// The machine of a call before its first turn, by the rules of version 2: `start_as` with it.
     ///
@@ -182,16 +183,14 @@ impl<'a, A: Allocator + Copy> Machine<'a, A> {
     {
         match open_call(contracts, call) {
             Ok(Opened { deployed, func }) => {
-                match Machine::begin(alloc, contracts, call, deployed, func, version) {
-                    Ok(machine) => Ok(machine),
-                    Err(NoMemory) => Err(StartRefusal::NoMemory),
-                }
+                Machine::begin(alloc, contracts, call, deployed, func, version)
             }
             Err(refusal) => Err(refusal_of(refusal)),
         }
     }
 
-    // The machine of a call that opens with this function of this contract, before its first turn.
+    // The machine of a call that opens with this function of this contract, before its first turn. It is refused nothing but memory. It answers as `start_as`
+    // does, so that the machine is not moved from one answer to the other.
     #[inline(always)]
     fn begin(
         alloc: A,
@@ -200,11 +199,12 @@ impl<'a, A: Allocator + Copy> Machine<'a, A> {
         deployed: &'a Deployed<A>,
         func: u32,
         version: Version,
-    ) -> Result<Machine<'a, A>, NoMemory>
+    ) -> Result<Machine<'a, A>, StartRefusal>
         requires opens { opening (setting_view version contracts.now) call.now ≡ Opens (contract_of version call.now.contract deployed.now) func }
         requires defined { length (hosts_of deployed.now) ≤ func }
         ensures start { IfOk result (λ m. IsStartOf (setting_view version contracts.now) call.now m) }
         ensures on_run { IfOk result (λ m. IsProgress m) }
+        ensures refused { IfErr result (λ refusal. refusal ≡ StartRefusal.NoMemory) }
     {
         deployed_calls_are_safe();
         deployed.is_linked();
@@ -238,7 +238,7 @@ impl<'a, A: Allocator + Copy> Machine<'a, A> {
         };
         match start_run(&mut run) {
             Turn::Stepped => Ok(Machine { run }),
-            Turn::NoMemory => Err(NoMemory),
+            Turn::NoMemory => Err(StartRefusal::NoMemory),
             Turn::Host(_) => unreachable!(),
             Turn::Enter => unreachable!(),
             Turn::Leave(_) => unreachable!(),
