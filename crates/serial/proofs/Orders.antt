@@ -21,6 +21,10 @@ results_of-push [] (y ∷ ms) r m e = absurd (omega (arith, e))
 results_of-push (x ∷ rs) [] r m e = absurd (omega (arith, e))
 
 module _ (setting : Setting) (calls : List ContractCall) where
+  -- at no position yet
+  pub serial_begun : (cells first : Cells) (rs : List Receipt) (ms : List Modes) → rs ≡ [] → first ≡ cells → Serial setting calls [] cells (results_of rs ms) first
+  serial_begun cells first rs ms none same = subst (λ xs. Serial setting calls [] cells (results_of xs ms) first) (sym none) same
+
   pub Serial-push : (order : List ℕ) (cells mid last : Cells) (rs : List CallResult) (n : ℕ) (r : CallResult) (call : ContractCall) → Serial setting calls order cells rs mid → slice_get calls n ≡ Some call
       → Executes setting call mid last r.receipt r.touched → Serial setting calls (order ++ n ∷ []) cells (rs ++ r ∷ []) last
   Serial-push [] cells mid last [] n r call s is e = (call, last, is, subst (λ x. Executes setting call x last r.receipt r.touched) s e, refl)

@@ -34,18 +34,20 @@ use crate::again::act_again;
 pub use crate::beginning::{Begun, begin};
 pub use crate::blocks::{build_block, run, run_as};
 pub use crate::locks::touched_by;
+use crate::locks::touched_in;
 pub use crate::over_view::{Reads, run_over};
-use crate::playing::play;
+use crate::playing::{OverCells, play};
 pub use crate::read_write_set::write_back;
 pub use crate::storage_loop::{Storage, play_over};
 pub use crate::turn_loop::{HostRequest, next_request};
 use call::Call;
 use interp::finished::Finished;
 use link::deployed::Deployed as Contract;
-use lock_profile::Touched;
+use lock_profile::{Held, Touched};
 pub use positions::positions_of;
 use spec_ledger::{Inverse, NoMemory, Receipt, Version};
 use std::alloc::{Allocator, Global};
+use std::mem;
 use storage::{Cells, end_all, end_alone, returned};
 
 /// What calls came to that ran one after another.
@@ -69,27 +71,72 @@ pub struct Executed<A: Allocator = Global> {
 }
 
 /// Ends a run whose operations were done on the cells: they stand if it returned, and else are taken back. After a refusal of
-/// memory they are taken back.
+/// memory they are taken back. The locks are looked for in the room of the last list.
 fn conclude<A: Allocator + Copy>(
     alloc: A,
     finished: &Finished<'_, A>,
     cells: &mut Cells<A>,
-    inverses: Vec<Inverse, A>,
+    inverses: &mut Vec<Inverse, A>,
+    asked: &mut Vec<Held, A>,
 ) -> Result<Executed<A>, NoMemory>
-    requires unsettled { AreUnsettled inverses.items cells.old.unsettled }
-    requires alone { closed_all inverses.items cells.old.unsettled ≡ finite.empty }
-    ensures executed { IfOk result (λ e. (start : Store) → AreDone start finished.now.trace cells.old inverses.items → start.unsettled ≡ finite.empty → AreCells start.cells → Executes finished.now.setting finished.now.call start.cells cells.new.cells e.receipt e.touched) }
-    ensures err { OnErr result (cells.new.cells ≡ back_all inverses.items cells.old.cells) }
-    ensures unsettled { cells.new.unsettled ≡ closed_all inverses.items cells.old.unsettled }
+    requires unsettled { AreUnsettled inverses.old.items cells.old.unsettled }
+    requires alone { closed_all inverses.old.items cells.old.unsettled ≡ finite.empty }
+    ensures executed { IfOk result (λ e. (start : Store) → AreDone start finished.now.trace cells.old inverses.old.items → start.unsettled ≡ finite.empty → AreCells start.cells → Executes finished.now.setting finished.now.call start.cells cells.new.cells e.receipt e.touched) }
+    ensures err { OnErr result (cells.new.cells ≡ back_all inverses.old.items cells.old.cells) }
+    ensures unsettled { cells.new.unsettled ≡ finite.empty }
 {
     finished.is_played();
     let receipt = finished.receipt();
-    let Ok(touched) = touched_by(alloc, finished.trace()) else {
-        end_all(cells, inverses, false);
+    let Ok(touched) = touched_in(alloc, asked, finished.trace()) else {
+        end_alone(cells, inverses, false);
         return Err(NoMemory);
     };
     end_alone(cells, inverses, returned(receipt.outcome));
     Ok(Executed { receipt, touched })
+}
+
+/// Runs a call over the cells, by the rules of this version. Unless it returned they are as before.
+fn execute_over<A: Allocator + Copy>(
+    alloc: A,
+    contracts: &[Contract<A>],
+    call: &Call,
+    over: &mut OverCells<A>,
+    version: Version,
+) -> Result<Executed<A>, NoMemory>
+    requires { over.old.cells.unsettled ≡ finite.empty }
+    ensures executed { IfOk result (λ e. Executes (setting_view version contracts.now) call.now over.old.cells.cells over.new.cells.cells e.receipt e.touched) }
+    ensures settled { over.new.cells.unsettled ≡ finite.empty }
+    ensures err { OnErr result (over.new.cells ≡ over.old.cells) }
+{
+    over.cells.use_invariant();
+    let finished = play(alloc, contracts, call, over, version)?;
+    conclude(
+        alloc,
+        &finished,
+        &mut over.cells,
+        &mut over.inverses,
+        &mut over.asked,
+    )
+}
+
+/// The run of a call alone over the cells, by the rules of this version. The cells are as before.
+fn run_alone_over<'a, A: Allocator + Copy>(
+    alloc: A,
+    contracts: &'a [Contract<A>],
+    call: &'a Call,
+    over: &mut OverCells<A>,
+    version: Version,
+) -> Result<Finished<'a, A>, NoMemory>
+    requires { over.old.cells.unsettled ≡ finite.empty }
+    ensures contracts { IfOk result (λ finished. finished.setting ≡ setting_view version contracts.now) }
+    ensures call { IfOk result (λ finished. finished.call ≡ call.now) }
+    ensures replies { IfOk result (λ finished. GetsReplies finished.trace over.old.cells.cells) }
+    ensures cells { over.new.cells ≡ over.old.cells }
+{
+    over.cells.use_invariant();
+    let finished = play(alloc, contracts, call, over, version)?;
+    end_alone(&mut over.cells, &mut over.inverses, false);
+    Ok(finished)
 }
 
 /// Runs a call over the cells, by the rules of this version. Unless it returned they are as before.
@@ -109,9 +156,16 @@ pub fn execute<A: Allocator + Copy>(
     ensures settled { cells.new.unsettled ≡ finite.empty }
     ensures err { OnErr result (cells.new ≡ cells.old) }
 {
-    cells.use_invariant();
-    let (finished, inverses) = play(alloc, contracts, call, cells, version)?;
-    conclude(alloc, &finished, cells, inverses)
+    let mut over = OverCells::of(alloc, mem::replace(cells, Cells::new(alloc)));
+    let executed = execute_over(alloc, contracts, call, &mut over, version);
+    let OverCells {
+        cells: now,
+        inverses: _,
+        marks: _,
+        asked: _,
+    } = over;
+    *cells = now;
+    executed
 }
 
 /// The run of a call alone over the cells, by the rules of this version. The cells are as before.
@@ -132,10 +186,16 @@ pub fn run_alone<'a, A: Allocator + Copy>(
     ensures replies { IfOk result (λ finished. GetsReplies finished.trace cells.old.cells) }
     ensures cells { cells.new ≡ cells.old }
 {
-    cells.use_invariant();
-    let (finished, done) = play(alloc, contracts, call, cells, version)?;
-    end_all(cells, done, false);
-    Ok(finished)
+    let mut over = OverCells::of(alloc, mem::replace(cells, Cells::new(alloc)));
+    let finished = run_alone_over(alloc, contracts, call, &mut over, version);
+    let OverCells {
+        cells: now,
+        inverses: _,
+        marks: _,
+        asked: _,
+    } = over;
+    *cells = now;
+    finished
 }
 
 /// Executes a call by a run of it that was made elsewhere, where each reply of the run is the one of these cells. None
@@ -159,7 +219,11 @@ pub fn replay<A: Allocator + Copy>(
     cells.use_invariant();
     let mut inverses = Vec::new(alloc);
     match act_again(alloc, cells, &mut inverses, finished.trace()) {
-        Ok(true) => Ok(Some(conclude(alloc, finished, cells, inverses)?)),
+        Ok(true) => {
+            let mut asked = Vec::new(alloc);
+            let executed = conclude(alloc, finished, cells, &mut inverses, &mut asked)?;
+            Ok(Some(executed))
+        }
         Ok(false) => {
             end_all(cells, inverses, false);
             Ok(None)
@@ -194,18 +258,24 @@ pub fn serial_core<A: Allocator + Copy>(
 {
     let mut receipts = Vec::new(alloc);
     let mut touched = Vec::new(alloc);
-    let mut current = cells.copy(alloc)?;
+    let mut over = OverCells::of(alloc, cells.copy(alloc)?);
     for number in order {
-        let executed = execute(
+        let executed = execute_over(
             alloc,
             contracts,
             &calls[*number as usize],
-            &mut current,
+            &mut over,
             version,
         )?;
         receipts.push(executed.receipt)?;
         touched.push(executed.touched)?;
     }
+    let OverCells {
+        cells: current,
+        inverses: _,
+        marks: _,
+        asked: _,
+    } = over;
     Ok(Core {
         receipts,
         touched,

@@ -1,27 +1,21 @@
-use Rattle.std.proofs.Common.{◌∙◌}
-use Rattle.std.proofs.lemmas.Result.{IfOk-weaker, on_err_weaker}
-use Rattle.serial.proofs.Ending.{may_end, ended, taken_back, executed_for}
+use Rattle.std.proofs.Common.{◌≡◌, IfOk, sym, ◌∙◌, subst}
+use Rattle.std.specs.Prelude.{OnErr}
+use Rattle.std.specs.FinMap.{empty}
+use Rattle.spec_execution.specs.Exec.{Executes}
+use Rattle.storage.specs.Counts.{Store}
 use Rattle.interp.specs.Callee.{setting_view}
 use Rattle.serial.proofs.execute.Goals as goal
 
-pub conclude-requires-clause-unsettled : goal.conclude-requires-clause-unsettled
-conclude-requires-clause-unsettled g c = may_end c.args.cells.now c.play.new.cells c.in_ok-finished.finished.trace c.in_ok-finished.inverses.items c.in_ok-finished.ensures.ok.done c.requires
-
-pub conclude-requires-clause-alone : goal.conclude-requires-clause-alone
-conclude-requires-clause-alone g c = ended c.args.cells.now c.play.new.cells c.in_ok-finished.finished.trace c.in_ok-finished.inverses.items c.in_ok-finished.ensures.ok.done c.requires
+pub execute_over-executed-requires : goal.execute_over-executed-requires
+execute_over-executed-requires g c = subst (λ (k : Store). k.unsettled ≡ empty) (sym (c.of-over.ensures ∙ c.replace.ensures.value)) c.requires
 
 pub returns-clause-executed : goal.returns-clause-executed
 returns-clause-executed g c =
-    IfOk-weaker c.conclude.result _ _
-    (λ e h. executed_for (setting_view c.args.version c.args.contracts.now) c.args.call.now c.args.cells.now c.play.new.cells c.in_ok-finished.finished c.in_ok-finished.inverses.items c.in_ok-finished.ensures.ok c.conclude.new.cells.cells e.receipt e.touched
-    (h c.args.cells.now c.in_ok-finished.ensures.ok.done c.requires c.use_invariant.ensures.cells))
-    c.conclude.ensures.executed
-
-pub returns-clause-settled : goal.returns-clause-settled
-returns-clause-settled g c = c.conclude.ensures.unsettled ∙ ended c.args.cells.now c.play.new.cells c.in_ok-finished.finished.trace c.in_ok-finished.inverses.items c.in_ok-finished.ensures.ok.done c.requires
+    let told = c.execute_over-executed.result in
+    let now = c.execute_over-executed.new.over.cells in
+    let setting = setting_view c.args.version c.args.contracts.now in
+    subst (λ (k : Store). IfOk told (λ e. Executes setting c.args.call.now k.cells now.cells e.receipt e.touched)) (c.of-over.ensures ∙ c.replace.ensures.value) c.execute_over-executed.ensures.executed
 
 pub returns-clause-err : goal.returns-clause-err
 returns-clause-err g c =
-    on_err_weaker c.conclude.result
-    (λ back. taken_back c.args.cells.now c.play.new.cells c.in_ok-finished.finished.trace c.in_ok-finished.inverses.items c.in_ok-finished.ensures.ok.done c.requires c.use_invariant.ensures.cells c.conclude.new.cells back c.conclude.ensures.unsettled)
-    c.conclude.ensures.err
+    subst (λ (k : Store). OnErr c.execute_over-executed.result (c.execute_over-executed.new.over.cells ≡ k)) (c.of-over.ensures ∙ c.replace.ensures.value) c.execute_over-executed.ensures.err

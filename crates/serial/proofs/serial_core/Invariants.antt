@@ -7,8 +7,8 @@ use Rattle.serial.proofs.serial_core.Given as goal
 
 abbrev pub invariant-loop-number : goal.invariant-loop-number
 invariant-loop-number g l = record {
-  serial : Serial (setting_view l.version l.contracts) l.calls (take l.number-index l.order) l.fn.cells.cells (results_of l.receipts.items l.touched.items) l.current.cells;
+  serial : Serial (setting_view l.version l.contracts) l.calls (take l.number-index l.order) l.fn.cells.cells (results_of l.receipts.items l.touched.items) l.over.cells.cells;
   receipts : length l.receipts.items ≡ l.number-index;
   touched : length l.touched.items ≡ l.number-index;
-  settled : l.current.unsettled ≡ finite.empty;
+  settled : l.over.cells.unsettled ≡ finite.empty;
 }
