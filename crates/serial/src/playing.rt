@@ -1,13 +1,17 @@
 // A call that runs over cells, which answer its operations.
-ghost use Rattle.std.specs.Prelude.{◌≡◌, [], IfOk, OnErr};
+ghost use Rattle.std.specs.Prelude.{◌≡◌, ◌<◌, ◌^◌, [], IfOk, IfSome, IsSome, OnErr, OnOk};
 ghost use Rattle.std.specs.FinMap as finite;
 ghost use Rattle.interp.specs.Callee.{setting_view};
+ghost use Rattle.interp.specs.Progress.{IsFree, IsSameCall, IsStartOf};
+ghost use Rattle.serial.specs.MachineProgress.{IsEnded};
 ghost use Rattle.serial.specs.Playing.{AreDone, AreDoneInLevels, IsPlayedOver};
 
 use crate::steps::{act, leave};
-use crate::storage_loop::{Storage, play_over};
+use crate::storage_loop::{Storage, play_over, run_on};
 use call::Call;
 use interp::finished::Finished;
+use interp::machine::Machine;
+use interp::start::StartRefusal;
 use link::deployed::Deployed as Contract;
 use lock_profile::Held;
 use spec_ledger::{Inverse, NoMemory, Op, Reply, Version};
@@ -96,6 +100,53 @@ pub(crate) fn play<'a, A: Allocator + Copy>(
     empty_list(&mut over.marks);
     match play_over(alloc, contracts, call, version, over) {
         Ok(finished) => Ok(finished),
+        Err(NoMemory) => {
+            take_back_to(&mut over.cells, &mut over.inverses, 0);
+            Err(NoMemory)
+        }
+    }
+}
+
+/// Begins a call in the place of the one before, where there is one.
+pub(crate) fn begin_in<'a, A: Allocator + Copy>(
+    alloc: A,
+    contracts: &'a [Contract<A>],
+    call: &'a Call,
+    machine: &mut Option<Machine<'a, A>>,
+    version: Version,
+) -> Result<(), StartRefusal>
+    ensures there { OnOk result (IsSome machine.new) }
+    ensures start { OnOk result (IfSome machine.new (IsStartOf (setting_view version contracts.now) call.now)) }
+{
+    match machine {
+        Some(before) => before.start_again(contracts, call, version),
+        None => {
+            let first = Machine::start_as(alloc, contracts, call, version)?;
+            *machine = Some(first);
+            Ok(())
+        }
+    }
+}
+
+/// Runs a call that a machine has begun over the cells. The inverses are then of its operations. After a refusal of memory the cells are as they were.
+pub(crate) fn run_in<'a, A: Allocator + Copy>(
+    machine: &mut Machine<'a, A>,
+    over: &mut OverCells<A>,
+) -> Result<(), NoMemory>
+    requires free { IsFree machine.old.status }
+    requires first { machine.old.trace ≡ [] }
+    requires limit { machine.old.call.fuel < 2 ^ 64 }
+    requires settled { over.old.cells.unsettled ≡ finite.empty }
+    ensures same { OnOk result (IsSameCall machine.old machine.new) }
+    ensures ended { OnOk result (IsEnded machine.new.status) }
+    ensures done { OnOk result (AreDone over.old.cells machine.new.trace over.new.cells over.new.inverses.items) }
+    ensures err { OnErr result (over.new.cells ≡ over.old.cells) }
+{
+    over.cells.use_invariant();
+    empty_list(&mut over.inverses);
+    empty_list(&mut over.marks);
+    match run_on(machine, over) {
+        Ok(()) => Ok(()),
         Err(NoMemory) => {
             take_back_to(&mut over.cells, &mut over.inverses, 0);
             Err(NoMemory)

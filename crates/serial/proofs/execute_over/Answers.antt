@@ -1,29 +1,39 @@
-use Rattle.std.proofs.lemmas.Result.{IfOk-weaker, on_err_weaker}
-use Rattle.std.proofs.Common.{sym, ◌∙◌}
-use Rattle.serial.proofs.Ending.{may_end, ended, taken_back, executed_for}
+use Rattle.std.proofs.Common.{◌≡◌, ◌<◌, ◌^◌, false, true, IfSome, arith, rules, sym, subst}
+use Rattle.std.specs.Prelude.{IsSome}
+use Rattle.std.proofs.lemmas.Result.{IfOk-weaker}
+use Rattle.spec_execution.specs.Configuration.{Setting}
+use Rattle.spec_execution.specs.Run.{ContractCall}
+use Rattle.spec_execution.specs.Exec.{Executes}
 use Rattle.interp.specs.Callee.{setting_view}
+use Rattle.interp.specs.Progress.{IsStartOf}
+use Rattle.serial.proofs.Meeting.{free_first}
 use Rattle.serial.proofs.execute_over.Goals as goal
 
-pub conclude-requires-clause-unsettled : goal.conclude-requires-clause-unsettled
-conclude-requires-clause-unsettled g c = may_end c.args.over.now.cells c.play.new.over.cells c.in_ok-finished.finished.trace c.play.new.over.inverses.items c.in_ok-finished.ensures.ok.done c.requires
+pub execute_begun-requires-clause-free : goal.execute_begun-requires-clause-free
+execute_begun-requires-clause-free g c =
+    let start = subst (λ o. IfSome o (IsStartOf (setting_view c.args.version c.args.contracts.now) c.args.call.now)) c.in-Some.is c.in-Ok.ensures.start in
+    free_first c.in-Some.begun.status start.goes_on
 
-pub conclude-requires-clause-alone : goal.conclude-requires-clause-alone
-conclude-requires-clause-alone g c = ended c.args.over.now.cells c.play.new.over.cells c.in_ok-finished.finished.trace c.play.new.over.inverses.items c.in_ok-finished.ensures.ok.done c.requires
+pub execute_begun-requires-clause-first : goal.execute_begun-requires-clause-first
+execute_begun-requires-clause-first g c =
+    let start = subst (λ o. IfSome o (IsStartOf (setting_view c.args.version c.args.contracts.now) c.args.call.now)) c.in-Some.is c.in-Ok.ensures.start in
+    start.trace
 
-pub returns-clause-executed : goal.returns-clause-executed
-returns-clause-executed g c =
-    IfOk-weaker c.conclude.result _ _
-    (λ e h. executed_for (setting_view c.args.version c.args.contracts.now) c.args.call.now c.args.over.now.cells c.play.new.over.cells c.in_ok-finished.finished c.play.new.over.inverses.items c.in_ok-finished.ensures.ok c.conclude.new.cells.cells e.receipt e.touched
-    (h c.args.over.now.cells c.in_ok-finished.ensures.ok.done c.requires c.use_invariant.ensures.cells))
-    c.conclude.ensures.executed
+pub execute_begun-requires-clause-limit : goal.execute_begun-requires-clause-limit
+execute_begun-requires-clause-limit g c =
+    let start = subst (λ o. IfSome o (IsStartOf (setting_view c.args.version c.args.contracts.now) c.args.call.now)) c.in-Some.is c.in-Ok.ensures.start in
+    let fits : c.fuel.result < 2 ^ 64 = search (arith, rules) in
+    subst (λ (k : ContractCall). k.fuel < 2 ^ 64) (sym start.call_is) (subst (λ n. n < 2 ^ 64) c.fuel.ensures fits)
 
-pub returns-clause-settled : goal.returns-clause-settled
-returns-clause-settled g c = c.conclude.ensures.unsettled
+pub unreachable-requires : goal.unreachable-requires
+unreachable-requires g c = let no : false ≡ true = subst IsSome c.in-None.is c.in-Ok.ensures.there in cc
 
-pub returns-clause-err : goal.returns-clause-err
-returns-clause-err g c =
-    let over = c.play.new.over in
-    let closed = ended c.args.over.now.cells over.cells c.in_ok-finished.finished.trace over.inverses.items c.in_ok-finished.ensures.ok.done c.requires in
-    on_err_weaker c.conclude.result
-    (λ back. taken_back c.args.over.now.cells over.cells c.in_ok-finished.finished.trace over.inverses.items c.in_ok-finished.ensures.ok.done c.requires c.use_invariant.ensures.cells c.conclude.new.cells back (c.conclude.ensures.unsettled ∙ sym closed))
-    c.conclude.ensures.err
+pub returns-in-Some-clause-executed : goal.returns-in-Some-clause-executed
+returns-in-Some-clause-executed g c =
+    let setting = setting_view c.args.version c.args.contracts.now in
+    let start = subst (λ o. IfSome o (IsStartOf setting c.args.call.now)) c.in-Some.is c.in-Ok.ensures.start in
+    let cells = c.args.over.now.cells.cells in
+    let later = c.execute_begun.new.over.cells.cells in
+    IfOk-weaker c.execute_begun.result _ _
+    (λ e h. subst (λ (k : ContractCall). Executes setting k cells later e.receipt e.touched) start.call_is (subst (λ (s : Setting). Executes s c.in-Some.begun.call cells later e.receipt e.touched) start.setting h))
+    c.execute_begun.ensures.executed
