@@ -1,9 +1,9 @@
-use Rattle.std.proofs.Common.{◌≡◌, sym, ◌∙◌, ap, subst}
+use Rattle.std.proofs.Common.{sym, ◌∙◌, subst}
 use Rattle.std.proofs.lemmas.Result.{IfOk-weaker, on_err_weaker}
 use Rattle.spec_execution.specs.Configuration.{Setting}
 use Rattle.spec_execution.specs.Run.{ContractCall}
 use Rattle.spec_execution.specs.Exec.{Executes}
-use Rattle.interp.specs.Progress.{IsUnfinished, played_of}
+use Rattle.interp.specs.Progress.{played_of}
 use Rattle.serial.proofs.Ending.{may_end, ended, taken_back}
 use Rattle.serial.proofs.MachineProgress.{not_unfinished}
 use Rattle.serial.proofs.execute_begun.Goals as goal

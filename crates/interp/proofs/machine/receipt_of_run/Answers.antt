@@ -1,4 +1,4 @@
-use Rattle.std.proofs.Common.{◌≡◌, ap, subst}
+use Rattle.std.proofs.Common.{ap, subst}
 use Rattle.spec_ledger.specs.declared.Receipt.{Receipt}
 use Rattle.spec_execution.specs.Levels.{ran}
 use Rattle.interp.specs.Machine.{IsAt}
