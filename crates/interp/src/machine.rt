@@ -1,5 +1,5 @@
 // A machine: a call that runs over lent contracts, a turn at a time.
-ghost use Rattle.std.specs.Prelude.{◌≡◌, ◌≢◌, ◌≤◌, [], length, IfOk, IfErr, OnOk, IfSome, IfNone, MatchResult};
+ghost use Rattle.std.specs.Prelude.{◌≡◌, ◌≢◌, ◌≤◌, length, IfOk, IfErr, OnOk, IfSome, IfNone, MatchResult};
 ghost use Rattle.spec_execution.specs.Run.{Opens, opening};
 ghost use Rattle.interp.specs.Machine.{progress};
 ghost use Rattle.interp.specs.Progress.{NextIs, IsSameCall, WantsMemory, IsTold, IsFree, IsAwaited, HasAnswered, IsFinishOf, IsReceiptOf, IsProgress, IsUnfinished, IsStartOf};
