@@ -9,6 +9,7 @@ use crate::post::QueueEnd;
 use crate::speculative_run::SpeculativeRuns;
 use crate::{InOrder, Task};
 use lanes::{ItemFact, QueuePass, TypedQueue};
+use news::{News, Reader};
 use pace::Pace;
 use spec_ledger::NoMemory;
 use std::alloc::Allocator;
@@ -72,11 +73,34 @@ pub(crate) fn receive<'a, A: Allocator + Copy, P: Pace>(
     post.line.take(&mut post.pass)
 }
 
+/// A post for one more thread.
+pub(crate) fn make_queue_end<'l, 'a, A: Allocator + Copy, P: Pace>(
+    job: &InOrder<'_, 'a, A, P>,
+    line: &'l BatchQueue<'a, A>,
+    own: &mut BatchPass<'a, A>,
+    news: &'l News<A>,
+) -> Result<QueueEnd<'l, 'a, A>, NoMemory>
+    requires task { line.now.key ≡ job.now.task }
+    requires own { IsPassOf line.now own.old }
+    ensures own { IsPassOf line.now own.new }
+    ensures post { IfOk result (IsQueueEndOf job.now) }
+{
+    let reader = Reader::open(job.alloc)?;
+    let pass = line.another(own);
+    Ok(QueueEnd {
+        line,
+        pass,
+        news,
+        reader,
+    })
+}
+
 /// A post for each of so many threads.
 pub(crate) fn make_queue_ends<'l, 'a, A: Allocator + Copy, P: Pace>(
     job: &InOrder<'_, 'a, A, P>,
     line: &'l BatchQueue<'a, A>,
     own: &mut BatchPass<'a, A>,
+    news: &'l News<A>,
     count: u32,
 ) -> Result<Vec<QueueEnd<'l, 'a, A>, A>, NoMemory>
     requires task { line.now.key ≡ job.now.task }
@@ -86,8 +110,7 @@ pub(crate) fn make_queue_ends<'l, 'a, A: Allocator + Copy, P: Pace>(
 {
     let mut posts = Vec::new(job.alloc);
     for _ in 0..count {
-        let pass = line.another(own);
-        posts.push(QueueEnd { line, pass })?;
+        posts.push(make_queue_end(job, line, own, news)?)?;
     }
     Ok(posts)
 }

@@ -3,8 +3,10 @@
 ghost use Rattle.std.specs.Prelude.{◌≡◌, ◌+◌, ◌≤◌, IfOk, length};
 ghost use Rattle.in_order.specs.Progress.{IsKnown, IsProgressOf};
 
+use crate::ahead_of_turn::MANY;
 use crate::turns::do_next;
 use crate::{InOrder, OrderProgress};
+use news::is_chain;
 use pace::{Pace, Step, must_stop_at, threads};
 use spec_ledger::{NoMemory, Receipt};
 use std::alloc::Allocator;
@@ -99,6 +101,9 @@ pub(crate) fn begin_straight<A: Allocator + Copy, P: Pace>(
     let StraightRun { ran, stops } = run_to(job, ran, from + FIRST)?;
     if stops {
         return Ok(Begun { ran, threads: 0 });
+    }
+    if left < MANY && is_chain(&ran.touched, from) {
+        return Ok(Begun { ran, threads: 1 });
     }
     let fuel = fuel_from(&ran.receipts, from);
     let threads = threads(workers, fuel, FIRST as u32, (left - FIRST) as u32);

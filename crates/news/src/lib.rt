@@ -1,0 +1,112 @@
+//! What threads that run calls ahead of their turn are told of the calls that were done meanwhile, how far ahead they run, and when either pays. All of it is policy: a
+//! call may be run over any cells, since in its turn it is run again where it found others than there are. So no clause says what is told, nor how new it is.
+#![tactic(auto)]
+
+mod known;
+mod reader;
+mod tally;
+
+use crate::known::Known;
+pub use crate::reader::{Reader, View};
+pub use crate::tally::{NO_BATCHES, Tally, is_chain};
+use lock_profile::Touched;
+use spec_ledger::{Mode, NoMemory};
+use std::alloc::{Allocator, Global};
+use std::sync::atomic::{AtomicBool, AtomicU64, Ordering};
+use std::thread::yield_now;
+use storage::Cells;
+
+/// How many batches of each thread those that are run ahead may be before the one that is done next: the one that it runs, and one that waits.
+const AHEAD: u64 = 2;
+
+/// How often a thread that is so far ahead looks whether another batch was done, before it runs one all the same: it may be the only thread there is.
+const LOOKS: u32 = 10_000;
+
+/// How many calls that were done before are told where threads are told from then on. What an older one changed costs one run more where it is asked for.
+const BEFORE: usize = 1_024;
+
+/// What threads are told of the calls that were done.
+#[derive(Drop)]
+pub struct News<A: Allocator = Global> {
+    /// The cells that the calls left.
+    pub(crate) left: Known<A>,
+    /// Whether threads are told.
+    is_told: AtomicBool,
+    /// Which batch of calls is done next.
+    next: AtomicU64,
+    /// How many batches those that are run ahead may be before that one.
+    pub(crate) ahead: u64,
+    /// How many calls there are.
+    calls: u64,
+}
+
+impl<A: Allocator + Copy> News<A> {
+    /// For so many calls and threads. Nothing is told.
+    ///
+    /// # Errors
+    ///
+    /// Memory was refused.
+    pub fn open(alloc: A, calls: usize, threads: u32) -> Result<Self, NoMemory> {
+        Ok(News {
+            left: Known::open(alloc, calls)?,
+            is_told: AtomicBool::new(false),
+            next: AtomicU64::new(0),
+            ahead: u64::from(threads).saturating_mul(AHEAD),
+            calls: calls as u64,
+        })
+    }
+
+    /// Whether threads are told.
+    pub fn is_told(&self) -> bool {
+        self.is_told.load(Ordering::SeqCst)
+    }
+
+    /// From now on threads are told, or no longer.
+    pub(crate) fn turn(&self, on: bool) {
+        self.is_told.store(on, Ordering::SeqCst);
+    }
+
+    /// The batch of this number is done next.
+    pub fn go_to(&self, batch: usize) {
+        self.next.store(batch as u64, Ordering::SeqCst);
+    }
+
+    /// Whether the batch that is drawn next may be run ahead.
+    pub fn is_near(&self, drawn: &AtomicU64) -> bool {
+        if !self.is_told() {
+            return true;
+        }
+        let batch = drawn.load(Ordering::SeqCst);
+        let next = self.next.load(Ordering::SeqCst);
+        batch < next.saturating_add(self.ahead) || batch >= self.calls
+    }
+
+    /// Waits a little while where the batch that is drawn next is far ahead.
+    pub fn wait(&self, drawn: &AtomicU64) {
+        for _look in 0..LOOKS {
+            if self.is_near(drawn) {
+                return;
+            }
+            yield_now();
+        }
+    }
+
+    /// Where threads are told, tells what the calls changed that were done from a position on; the cells are those after them. Where they were not told before, some earlier calls are told, too.
+    pub fn tell(&self, touched: &[Touched<A>], from: usize, cells: &Cells<A>, was_told: bool) {
+        if !self.is_told() {
+            return;
+        }
+        let first = if was_told {
+            from
+        } else {
+            from.saturating_sub(BEFORE)
+        };
+        for position in first..touched.len() {
+            for held in touched[position].lock_modes() {
+                if !matches!(held.mode, Mode::Read) {
+                    self.left.set(held.lock, cells.get(held.lock));
+                }
+            }
+        }
+    }
+}
