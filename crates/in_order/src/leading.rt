@@ -102,12 +102,15 @@ fn look<'a, A: Allocator + Copy, P: Pace>(
     None
 }
 
-/// Draws the next batch, if one is left, and not far ahead.
-fn draw_near<A: Allocator + Copy, P: Pace>(
+/// Draws the next batch, if one is left and it is the one that is done next, or it pays to run it ahead.
+fn draw_here<A: Allocator + Copy, P: Pace>(
     job: &InOrder<'_, '_, A, P>,
     news: &News<A>,
+    tally: &Tally,
+    nth: usize,
 ) -> Option<usize> {
-    if news.is_near(&job.drawn) {
+    let is_next = job.drawn.load(Ordering::SeqCst) <= nth as u64;
+    if is_next || tally.pays() && news.is_near(&job.drawn) {
         draw(job)
     } else {
         None
@@ -142,7 +145,7 @@ fn lead_on<'a, A: Allocator + Copy, P: Pace>(
     if let Some(share) = take_out(job, supply, nth) {
         return do_share(job, ran, supply, post.news, tally, share);
     }
-    if let Some(drawn) = draw_near(job, post.news) {
+    if let Some(drawn) = draw_here(job, post.news, tally, nth) {
         if drawn == nth {
             return run_to(job, ran, end);
         }

@@ -6,7 +6,7 @@ ghost use Rattle.in_order.specs.Progress.{IsKnown, IsProgressOf};
 use crate::ahead_of_turn::MANY;
 use crate::turns::do_next;
 use crate::{InOrder, OrderProgress};
-use news::is_chain;
+use news::are_entangled;
 use pace::{Pace, Step, must_stop_at, threads};
 use spec_ledger::{NoMemory, Receipt};
 use std::alloc::Allocator;
@@ -102,7 +102,7 @@ pub(crate) fn begin_straight<A: Allocator + Copy, P: Pace>(
     if stops {
         return Ok(Begun { ran, threads: 0 });
     }
-    if left < MANY && is_chain(&ran.touched, from) {
+    if left < MANY && are_entangled(&ran.touched, from) {
         return Ok(Begun { ran, threads: 1 });
     }
     let fuel = fuel_from(&ran.receipts, from);

@@ -27,6 +27,8 @@ pub struct Tally {
     again_before: u64,
     /// How often telling was tried.
     tries: u32,
+    /// Whether at least half of the calls of the last batch were done as they were run ahead.
+    pays: bool,
 }
 
 /// A tally of no batches.
@@ -37,12 +39,14 @@ pub const NO_BATCHES: Tally = Tally {
     old: 0,
     again_before: 0,
     tries: 0,
+    pays: true,
 };
 
 impl Tally {
     /// Notes a batch of so many calls, so many of which were done as they were run ahead. Answers whether running calls ahead brings nothing: of the last batches 9 of 10 calls had to be run again. Where it
     /// brings less than it could, threads are told what was done, and no longer where that makes less than a quarter of it good.
     pub fn note<A: Allocator + Copy>(&mut self, news: &News<A>, calls: u64, ahead: u64) -> bool {
+        self.pays = ahead.saturating_mul(2) >= calls;
         if self.old > 0 {
             self.old -= 1;
             return false;
@@ -65,6 +69,11 @@ impl Tally {
             self.begin(news, again);
         }
         is_vain
+    }
+
+    /// Whether it pays that the thread that does the calls runs some ahead, too: in a short list what it runs in vain is much of all.
+    pub fn pays(&self) -> bool {
+        self.pays
     }
 
     /// Threads are told from now on, where so many calls were run again.
@@ -100,18 +109,25 @@ fn do_meet(one: &[Held], other: &[Held]) -> bool {
     false
 }
 
-/// Whether of the calls from a position on 9 of 10 meet the one before them.
-pub fn is_chain<A: Allocator>(touched: &[Touched<A>], from: usize) -> bool {
-    let mut pairs = 0u64;
-    let mut meetings = 0u64;
-    for position in from..touched.len() {
-        if position > from {
-            pairs = pairs.saturating_add(1);
-            let before = touched[position - 1].lock_modes();
-            if do_meet(before, touched[position].lock_modes()) {
-                meetings = meetings.saturating_add(1);
-            }
+/// Whether a call meets one of these.
+fn meets_one_of<A: Allocator>(call: &[Held], others: &[Touched<A>]) -> bool {
+    for other in others {
+        if do_meet(call, other.lock_modes()) {
+            return true;
         }
     }
-    pairs > 0 && meetings.saturating_mul(10) >= pairs.saturating_mul(9)
+    false
+}
+
+/// Whether of the calls from a position on three of four meet one before them there. Then a short list is run sooner by one thread: 60 calls would be over before a tally says so.
+pub fn are_entangled<A: Allocator>(touched: &[Touched<A>], from: usize) -> bool {
+    let mut calls = 0u64;
+    let mut meetings = 0u64;
+    for position in from..touched.len() {
+        calls = calls.saturating_add(1);
+        if meets_one_of(touched[position].lock_modes(), &touched[from..position]) {
+            meetings = meetings.saturating_add(1);
+        }
+    }
+    calls > 0 && meetings.saturating_mul(4) >= calls.saturating_mul(3)
 }
