@@ -71,7 +71,7 @@ fn do_share<'a, A: Allocator + Copy, P: Pace>(
     keep(job, supply, share)?;
     let calls = ran.receipts.len().saturating_sub(done) as u64;
     let ahead = u64::from(ran.ahead.saturating_sub(ahead));
-    if tally.note(news, calls, ahead) {
+    if tally.note(news, &job.drawn, calls, ahead) {
         job.close();
         return run_to(job, ran, job.order.len());
     }

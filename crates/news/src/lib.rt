@@ -35,7 +35,7 @@ pub struct News<A: Allocator = Global> {
     /// Which batch of calls is done next.
     next: AtomicU64,
     /// How many batches those that are run ahead may be before that one.
-    pub(crate) ahead: u64,
+    ahead: u64,
     /// How many calls there are.
     calls: u64,
 }
@@ -71,14 +71,18 @@ impl<A: Allocator + Copy> News<A> {
         self.next.store(batch as u64, Ordering::SeqCst);
     }
 
+    /// How many batches were drawn beside those that were done.
+    pub(crate) fn waiting(&self, drawn: &AtomicU64) -> u64 {
+        let next = self.next.load(Ordering::SeqCst);
+        drawn.load(Ordering::SeqCst).saturating_sub(next)
+    }
+
     /// Whether the batch that is drawn next may be run ahead.
     pub fn is_near(&self, drawn: &AtomicU64) -> bool {
         if !self.is_told() {
             return true;
         }
-        let batch = drawn.load(Ordering::SeqCst);
-        let next = self.next.load(Ordering::SeqCst);
-        batch < next.saturating_add(self.ahead) || batch >= self.calls
+        self.waiting(drawn) < self.ahead || drawn.load(Ordering::SeqCst) >= self.calls
     }
 
     /// Waits a little while where the batch that is drawn next is far ahead.

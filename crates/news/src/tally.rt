@@ -4,6 +4,7 @@ use crate::News;
 use lock_profile::{Held, Touched};
 use spec_ledger::goes_with;
 use std::alloc::Allocator;
+use std::sync::atomic::AtomicU64;
 
 /// Of how many batches each is reckoned.
 const BATCHES: u32 = 16;
@@ -45,7 +46,13 @@ pub const NO_BATCHES: Tally = Tally {
 impl Tally {
     /// Notes a batch of so many calls, so many of which were done as they were run ahead. Answers whether running calls ahead brings nothing: of the last batches 9 of 10 calls had to be run again. Where it
     /// brings less than it could, threads are told what was done, and no longer where that makes less than a quarter of it good.
-    pub fn note<A: Allocator + Copy>(&mut self, news: &News<A>, calls: u64, ahead: u64) -> bool {
+    pub fn note<A: Allocator + Copy>(
+        &mut self,
+        news: &News<A>,
+        drawn: &AtomicU64,
+        calls: u64,
+        ahead: u64,
+    ) -> bool {
         self.pays = ahead.saturating_mul(2) >= calls;
         if self.old > 0 {
             self.old -= 1;
@@ -66,7 +73,7 @@ impl Tally {
         if news.is_told() {
             self.judge(news, again);
         } else if is_often && self.tries < TRIES {
-            self.begin(news, again);
+            self.begin(news, drawn, again);
         }
         is_vain
     }
@@ -77,8 +84,8 @@ impl Tally {
     }
 
     /// Threads are told from now on, where so many calls were run again.
-    fn begin<A: Allocator + Copy>(&mut self, news: &News<A>, again: u64) {
-        self.old = news.ahead;
+    fn begin<A: Allocator + Copy>(&mut self, news: &News<A>, drawn: &AtomicU64, again: u64) {
+        self.old = news.waiting(drawn);
         self.again_before = again;
         self.tries = self.tries.saturating_add(1);
         news.turn(true);
