@@ -21,6 +21,10 @@ impl Slot {
         self.name.load(Ordering::SeqCst) | 1 == name
     }
 
+    fn is_free(&self) -> bool {
+        self.name.load(Ordering::SeqCst) == 0
+    }
+
     fn get(&self) -> Option<u64> {
         if self.name.load(Ordering::SeqCst) % 2 == 0 {
             return None;
@@ -78,20 +82,17 @@ impl<A: Allocator + Copy> Known<A> {
         }
     }
 
-    /// The slots of a name.
-    fn set_of(&self, name: u64) -> &[Slot] {
+    /// The slots of a name. None where there is room for none.
+    fn set_of(&self, name: u64) -> Option<&[Slot]> {
         let sets = (self.slots.len() / SET) as u64;
         let first = (((name >> 32).wrapping_mul(sets) >> 32) as usize).saturating_mul(SET);
-        match self.slots.get(first..first.saturating_add(SET)) {
-            Some(set) => set,
-            None => &[],
-        }
+        self.slots.get(first..first.saturating_add(SET))
     }
 
     /// What a cell holds, where that is known.
     pub(crate) fn get(&self, lock: Lock) -> Option<Option<u64>> {
         let name = name_of(lock);
-        for slot in self.set_of(name) {
+        for slot in self.set_of(name)? {
             if slot.is_of(name) {
                 return Some(slot.get());
             }
@@ -102,9 +103,11 @@ impl<A: Allocator + Copy> Known<A> {
     /// Takes note of what a cell holds.
     pub(crate) fn set(&self, lock: Lock, cell: Option<u64>) {
         let name = name_of(lock);
-        let set = self.set_of(name);
+        let Some(set) = self.set_of(name) else {
+            return;
+        };
         for slot in set {
-            if slot.is_of(name) || slot.is_of(1) {
+            if slot.is_of(name) || slot.is_free() {
                 slot.set(name, cell);
                 return;
             }
