@@ -15,7 +15,7 @@ use std::alloc::Allocator;
 use std::sync::atomic::Ordering;
 
 /// From how many calls on the batches are large.
-pub(crate) const MANY: usize = 512;
+const MANY: usize = 512;
 
 /// How many positions a thread takes at a time, of an order of so many.
 pub(crate) fn batch_of(len: usize) -> usize

@@ -3,10 +3,8 @@
 ghost use Rattle.std.specs.Prelude.{◌≡◌, ◌+◌, ◌≤◌, IfOk, length};
 ghost use Rattle.in_order.specs.Progress.{IsKnown, IsProgressOf};
 
-use crate::ahead_of_turn::MANY;
 use crate::turns::do_next;
 use crate::{InOrder, OrderProgress};
-use news::are_entangled;
 use pace::{Pace, Step, must_stop_at, threads};
 use spec_ledger::{NoMemory, Receipt};
 use std::alloc::Allocator;
@@ -101,9 +99,6 @@ pub(crate) fn begin_straight<A: Allocator + Copy, P: Pace>(
     let StraightRun { ran, stops } = run_to(job, ran, from + FIRST)?;
     if stops {
         return Ok(Begun { ran, threads: 0 });
-    }
-    if left < MANY && are_entangled(&ran.touched, from) {
-        return Ok(Begun { ran, threads: 1 });
     }
     let fuel = fuel_from(&ran.receipts, from);
     let threads = threads(workers, fuel, FIRST as u32, (left - FIRST) as u32);

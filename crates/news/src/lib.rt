@@ -8,7 +8,7 @@ mod tally;
 
 use crate::known::Known;
 pub use crate::reader::{Reader, View};
-pub use crate::tally::{NO_BATCHES, Tally, are_entangled};
+pub use crate::tally::{NO_BATCHES, Tally};
 use lock_profile::Touched;
 use spec_ledger::{Mode, NoMemory};
 use std::alloc::{Allocator, Global};
