@@ -1,6 +1,5 @@
 //! What the calls find that one thread runs ahead of their turn.
 
-ghost use Rattle.std.specs.Prelude.{Unit};
 ghost use Rattle.serial.specs.Touches.{IsCellAt};
 
 use crate::News;
