@@ -68,7 +68,9 @@ impl Tally {
         self.batches = 0;
         self.calls = 0;
         self.ahead = 0;
-        if news.is_told() {
+        if is_vain {
+            news.turn(false);
+        } else if news.is_told() {
             self.judge(news, again);
         } else if is_often && self.tries < TRIES {
             self.begin(news, drawn, again);
