@@ -155,7 +155,10 @@ fn lead_on<'a, A: Allocator + Copy, P: Pace>(
     }
     match look(job, supply, post, nth) {
         Some(share) => do_share(job, ran, supply, post.news, tally, share),
-        None => run_to(job, ran, end),
+        None => {
+            tally.try_again();
+            run_to(job, ran, end)
+        }
     }
 }
 

@@ -83,6 +83,11 @@ impl Tally {
         self.pays
     }
 
+    /// The next batch did not come: it may pay again. (Where two threads run the same batches side by side, none would ever come.)
+    pub fn try_again(&mut self) {
+        self.pays = true;
+    }
+
     /// Threads are told from now on, where so many calls were run again.
     fn begin<A: Allocator + Copy>(&mut self, news: &News<A>, drawn: &AtomicU64, again: u64) {
         self.old = news.waiting(drawn);
