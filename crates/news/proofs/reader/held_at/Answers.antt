@@ -4,7 +4,7 @@ use Rattle.spec_ledger.proofs.Ops.{counter_fits, pos_mod}
 use Rattle.news.proofs.reader.held_at.Goals as goal
 
 pub returns-in-Map : goal.returns-in-Map
-returns-in-Map g c = λ kind. absurd (let no = sym c.in-Map.is ∙ kind in cc)
+returns-in-Map c kind = absurd (let no = sym c.in-Map.is ∙ kind in cc)
 
 pub returns-in-Counter : goal.returns-in-Counter
-returns-in-Counter g c = λ kind. subst IsCounter (sym c.next_cell.ensures) (counter_fits _ (pos_mod (number c.args.cell + 0)))
+returns-in-Counter c kind = subst IsCounter (sym c.next_cell.ensures) (counter_fits _ (pos_mod (number c.args.cell + 0)))
