@@ -1,7 +1,7 @@
 -- What threads are told they may share, and what one knows may go to it, over an allocator that may, and whose blocks any thread may give back.
 use denote.RattleType.{RattleType}
 use denote.Param.Send.{Frees, IsSend, IsSync, sendable}
-use denote.Param.SendFields.{declared_sync}
+use denote.Param.SendFields.{declared_send, declared_sync}
 use Rattle.std.specs.declared.alloc.Allocator.{Ghosts}
 use Rattle.std.proofs.Crossing as std
 use Rattle.serial.proofs.Crossing.{crosses, vec_send, vec_sync}
@@ -18,7 +18,7 @@ module _ (B : RattleType) (g : Ghosts B.Denot) (send : IsSend B) (sync : IsSync 
   known_sync = let vec = vec_sync B g send sync frees in search (crosses, slot.the_sync, vec) depth 60 fits 100000
 
   pub reader_send : IsSend (reader_row.the_row B g)
-  reader_send = search (crosses, known_send) depth 60 fits 100000
+  reader_send = declared_send (reader_row.the_type B g) (known_send, tt)
 
   pub news_sync : IsSync (news_row.the_row B g)
   news_sync =
