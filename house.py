@@ -40,16 +40,16 @@ ALL_BYTES = 200_000
 # What each document has at most, in bytes.
 LIMITS = {
     "README.md": 4_500,
-    "CONTRIBUTING.md": 11_500,
+    "CONTRIBUTING.md": 12_200,
     "CHANGELOG.md": 7_500,
     "docs/ARCHITECTURE.md": 15_500,
     "docs/BENCHMARKS.md": 13_500,
-    "docs/DECISIONS.md": 27_500,
+    "docs/DECISIONS.md": 28_000,
     "docs/DEFINITIONS.md": 18_600,
-    "docs/GUIDE.md": 20_000,
+    "docs/GUIDE.md": 21_000,
     "docs/PROOFS.md": 7_500,
-    "docs/REFERENCE.md": 60_000,
-    "docs/STATUS.md": 9_000,
+    "docs/REFERENCE.md": 60_500,
+    "docs/STATUS.md": 9_500,
     "docs/WRONG_BODIES.md": 8_000,
 }
 # The median of the words of a document's sentences, and how many of them have more than 40.
@@ -68,7 +68,7 @@ UPWARD = {}
 
 # How many lines of code and functions a crate has at most, and the crates that have more (docs/DECISIONS.md, 'Crates and copies', says why).
 LINES, FUNCTIONS = 1_500, 100
-LARGE = {"interp": (2_000, 101), "rows_texts": (LINES, 109), "tests_blocks": (1_900, FUNCTIONS), "tests_verdicts": (2_400, 106)}
+LARGE = {"interp": (2_000, 101), "rows_texts": (LINES, 109), "tests_blocks": (1_900, FUNCTIONS), "tests_program": (1_600, 105), "tests_threads": (1_600, FUNCTIONS), "tests_verdicts": (2_400, 106)}
 
 
 def layers():
@@ -244,7 +244,7 @@ def faults_of_lemmas():
 
 def faults_of_links():
     readers = [TOP / name for name in documents()] + list(TOP.glob("crates/*/README.md")) + list(TOP.glob("*/*.sh")) + [TOP / ".ci/run", TOP / "wrong-bodies.py"]
-    readers += [path for path in (TOP / "kit/README.md", TOP / "examples/README.md") if path.is_file()]
+    readers += [path for path in (TOP / "kit/README.md", TOP / "examples/README.md", TOP / "embed/README.md") if path.is_file()]
     faults = []
     for reader in readers:
         for path in sorted(set(re.findall(r"\b(?:docs|crates|bench|examples|kit)/[\w./-]*\w", reader.read_text()))):

@@ -1,10 +1,8 @@
 #!/usr/bin/env bash
 # Refuses memory to the program: in each command of the examples' sessions, and in some more over their files, each allocation and each start of a thread in turn, first it
-# alone and then it and all behind it (refuse.c, by LD_PRELOAD); and, for as many minutes as asked in all, some that are drawn by chance. A run has to end with status 4, with
-# the word `memory` and with all files as they were; with status 3 and the name of a file that it could not begin to write, each file being as it was or whole; with `error:
-# out of memory` in place of help or a usage error, and all files as they were (both are known faults of docs/STATUS.md); or as the command does that is refused nothing, but
-# for a part of a sentence on standard error. It prints a line a minute and how many runs came to what, and fails, keeping the files, at the first that ends otherwise. Run it
-# anywhere in the repository:
+# alone and then it and all behind it (refuse.c, by LD_PRELOAD); and, for as many minutes as asked in all, some that are drawn by chance. A run has to end with status 4,
+# with the word `memory` and with all files as they were; or as the command does that is refused nothing, but for a part of a sentence on standard error. It prints a line
+# a minute and how many runs came to what, and fails, keeping the files, at the first that ends otherwise. Run it anywhere in the repository:
 #
 #   bench/refuse.sh [PROGRAM] MINUTES [SEED [EXAMPLE ..]]
 source "$(dirname "${BASH_SOURCE[0]}")/common.sh" wblock gcc python3
@@ -68,10 +66,9 @@ class Command:
         said = subprocess.run([program, "validate", world, calls, block, "--fuel", fuel, "--next", f"{work}/again"], cwd=self.folder, capture_output=True)
         return said.returncode == 0 and now.get(world_after) in (self.before.get(world_after), open(f"{work}/again", "rb").read())
 
-    def is_whole(self, now, as_plain):
-        """Whether each file is as the command leaves it, or, where that is not asked, as it was."""
-        wanted = [self.after] if as_plain else [self.before, self.after]
-        differ = {name for name in {*now, *self.after} if now.get(name) not in [it.get(name) for it in wanted]}
+    def is_whole(self, now):
+        """Whether each file is as the command leaves it."""
+        differ = {name for name in {*now, *self.after} if now.get(name) != self.after.get(name)}
         if differ and "--boosted" in self.words and self.words[0] == "mine":
             return differ <= set(self.words[3:5]) and self.is_accepted(now)
         return not differ
@@ -81,12 +78,8 @@ class Command:
         if refused and (status, out, err) == (4, b"", b"memory\n") and not changed:
             return "with status 4"
         now = files(self.folder)
-        if refused and status == 3 and out == b"" and err in {f"file {word}\n".encode() for word in self.words[1:]} and self.is_whole(now, False):
-            return "with a file written" if changed else "with status 3"
-        if refused and not changed and status == self.plain[0] and [out, err] in ([b"error: out of memory\n", b""], [b"", b"error: out of memory\n"]):
-            return "as words"
         is_ordered = "--boosted" not in self.words or self.words[0] != "mine"
-        if status != self.plain[0] or not self.is_whole(now, True):
+        if status != self.plain[0] or not self.is_whole(now):
             return None
         if not is_ordered or [out, err] == self.plain[1:]:
             return "as without" if refused else "refused nothing"
@@ -170,7 +163,6 @@ while time.monotonic() < end:
         drawn += 1
     command.go_on()
 print(f"seed {seed}: {len(commands)} commands with up to {max(it.reached for it in commands) - 1} allocations, each of {sum(it.reached - 1 for it in commands)} refused, alone and with all behind it, in {whole / 60:.0f} minutes, and {drawn} runs by chance: "
-      f"{endings['with status 4']} runs end with status 4 and every file as it was, {endings['with status 3']} with status 3 and every file as it was, {endings['with a file written']} with status 3 and a file written, as BLOCK of mine, "
-      f"and {endings['as words']} with `error: out of memory` in place of help or a usage error (known faults of docs/STATUS.md), {endings['as without']} as without, {endings['in fewer words']} as without but for a part of a sentence on standard error, {endings['refused nothing']} were refused nothing")
+      f"{endings['with status 4']} runs end with status 4 and every file as it was, {endings['as without']} as without, {endings['in fewer words']} as without but for a part of a sentence on standard error, {endings['refused nothing']} were refused nothing")
 RUNS
 took

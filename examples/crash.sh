@@ -126,7 +126,7 @@ whole_at_each_look() {
 }
 
 # Whether a small file system is filled so that a world in it stays whole, whichever room it has: $1 the command that writes it, whose files are small/world
-# and small/block. It says for each room how the command ended: with status 3, or with 0.
+# and small/block. It says for each room how the command ended, with status 3 or with 0, what is there, and which file failed.
 filled() {
     # shellcheck disable=SC2016 # the words are of the inner shell
     unshare --user --map-root-user --mount bash -c '
@@ -142,7 +142,8 @@ filled() {
             block=other
             [ -e small/block ] || block=none
             cmp -s small/block few.block && block=whole
-            echo "$status $world $block $left"
+            failed=$(sed -n "s/^file small.//p" err)
+            echo "$status $world $block $left ${failed:-none}"
             umount small
         done' bash "$1" 2>mounting
 }
@@ -253,7 +254,7 @@ is "nothing is left beside the next world" tidy .
 is "a world that is replaced is whole at each look" whole_at_each_look 10
 is "nothing is left beside it" tidy .
 
-# a small file system that is filled: the world stays whole
+# a small file system that is filled: the world stays whole, and the block comes with it alone
 words=(mine small/world few.calls small/block small/world "${mine[*]}")
 filled "${words[*]}" >mined
 if [ $? = 77 ]; then
@@ -263,16 +264,16 @@ else
     filled "${words[*]}" >validated
     is "each room was tried" [ "$(cat mined validated | wc -l)" = 20 ]
     while read -r room; do
-        is "mine in a small file system: $room" grep -qx -e '3 before none 0' -e '3 before whole 0' -e '0 after whole 0' <<<"$room"
+        is "mine in a small file system: $room" grep -qx -e '3 before none 0 block' -e '3 before none 0 world' -e '0 after whole 0 none' <<<"$room"
     done <mined
     while read -r room; do
-        is "validate in a small file system: $room" grep -qx -e '3 before none 0' -e '0 after none 0' <<<"$room"
+        is "validate in a small file system: $room" grep -qx -e '3 before none 0 world' -e '0 after none 0 none' <<<"$room"
     done <validated
-    is "some room is too little for the block" grep -qx '3 before none 0' mined
-    is "some room is too little for the world" grep -qx '3 before whole 0' mined
-    is "some room suffices" grep -qx '0 after whole 0' mined
-    is "some room is too little for the world of a validator" grep -qx '3 before none 0' validated
-    is "some room suffices for a validator" grep -qx '0 after none 0' validated
+    is "some room is too little for the block" grep -qx '3 before none 0 block' mined
+    is "some room is too little for the world" grep -qx '3 before none 0 world' mined
+    is "some room suffices" grep -qx '0 after whole 0 none' mined
+    is "some room is too little for the world of a validator" grep -qx '3 before none 0 world' validated
+    is "some room suffices for a validator" grep -qx '0 after none 0 none' validated
 fi
 
 echo "crash: seed $seed: $kills kills, of which $were_left left a temporary file; $were_before times the world was the one before, $were_after times the one after"

@@ -146,6 +146,16 @@ goes_through_a_pipe() {
     [ $status = 0 ] && whole got module && [ -p pipe ] && rm pipe
 }
 
+# Whether a block and a next world go through two pipes, of which the first is read to its end before the second is opened.
+go_through_pipes() {
+    mkfifo first second
+    { timeout 60 cat first && timeout 60 cat second; } >got &
+    timeout 60 "$program" mine world calls first second "${mine[@]}" >out 2>err
+    local status=$?
+    wait $!
+    [ $status = 0 ] && cat block next | cmp -s - got && rm first second
+}
+
 # Whether the module goes to a stream of the shell, which stays the file that it was.
 goes_to_a_stream() {
     echo "before, which is longer than nothing" >got
@@ -209,8 +219,7 @@ for name in folder /dev/full none/file text/file; do
     fails "a block written, and the next world in the place of the world" $name "$why" mine own calls $name own "${mine[@]}"
     is "the world stays where the block is $name" whole own world
     fails "a next world written" $name "$why" mine world calls b $name "${mine[@]}"
-    is "the block is whole where the next world is $name" whole b block
-    rm b
+    is "no block where the next world is $name" absent b
     fails "a world after a block written" $name "$why" validate world calls block --fuel 1000000 --next $name
     fails "a picture written" $name "$why" show block --svg $name
 done
@@ -227,7 +236,7 @@ rm b
 head -n 3 calls >few
 mines next few few.block few.next || give_up "no second block is made"
 is "a next world with too many bytes fails" in_a_kilobyte n mine next few b n "${mine[@]}"
-is "the block is whole where the next world has too many bytes" whole b few.block
+is "no block where the next world has too many bytes" absent b
 is "no next world with too many bytes" absent n
 cp next own
 is "a next world with too many bytes in the place of the world fails" in_a_kilobyte own mine own few b own "${mine[@]}"
@@ -238,7 +247,7 @@ mapfile -t many < <(yes module | head -n 20)
 is "a world deployed with too many bytes fails" in_a_kilobyte own deploy own "${many[@]}" --force
 is "the world is as it was where one is deployed with too many bytes" whole own next
 is "nothing is left where an output has too many bytes" tidy .
-rm b own
+rm own
 
 # a device with little room, with room for no file more, and one that can only be read
 mounted size=4k true
@@ -316,6 +325,7 @@ is "a new file has the mode that the shell asks for" [ "$(stat -c %a m)" = 640 ]
 
 # what is no regular file is written as it is
 is "a pipe is written" goes_through_a_pipe
+is "two pipes are written, one behind the other" go_through_pipes
 is "a stream is written" goes_to_a_stream
 is "standard output is written as a file" goes_to_stdout
 is "a device is written" assembles /dev/null

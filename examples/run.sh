@@ -1,6 +1,7 @@
 #!/usr/bin/env bash
-# Runs the session of each example with the built program, and compares what is printed and each status; then reads by other programs what is shown of each module,
-# world and block that the sessions left (shown.py); then runs the program over files that fail, and over files that are there before they are written (files.sh).
+# Runs the session of each example with the built program, and the way of docs/GUIDE.md from an empty folder to a validated block, and compares what is printed and each
+# status; then reads by other programs what is shown of each module, world and block that the sessions left (shown.py); then runs the program over files that fail, and
+# over files that are there before they are written (files.sh).
 #
 #   examples/run.sh [PROGRAM]     PROGRAM: crates/wblock/out/wblock of this repository if it is not given
 #
@@ -71,8 +72,21 @@ run_session() {
             'said '*) says=${line#said } ;;
             *) wanted=${wanted:+$wanted$'\n'}$line ;;
         esac
-    done <"$here/$1/session.txt"
+    done <"$work/$1/session.txt"
     [ "$has" = 1 ] && compare "$1" "$command" "$wanted" "$says"
+}
+
+# Makes a session of the guide's ten minutes, and of its call alone, in the folder $1: a block of code behind the words "into `NAME`" is that file, and one that begins
+# with `$ ` is a part of the session.
+guide_into() {
+    awk -v folder="$1" '
+        /^## / { within = $0 == "## Ten minutes" || $0 == "## Fuel" }
+        !within { next }
+        /^```/ { inside = !inside; begins = inside; next }
+        begins { begins = 0; file = folder "/" (/^\$ / ? "session.txt" : name) }
+        inside { print >file; next }
+        match($0, /into `[^`]*`/) { name = substr($0, RSTART + 6, RLENGTH - 7) }
+    ' "$here/../docs/GUIDE.md"
 }
 
 for session in "$here"/*/session.txt; do
@@ -80,6 +94,9 @@ for session in "$here"/*/session.txt; do
     cp -r "$here/$name" "$work/$name"
     run_session "$name"
 done
+mkdir "$work/guide"
+guide_into "$work/guide"
+run_session guide
 if "$here/shown.py" "$program" "$work"; then passed=$((passed + 1)); else failed=$((failed + 1)); fi
 if "$here/files.sh" "$program"; then passed=$((passed + 1)); else failed=$((failed + 1)); fi
 echo "$passed passed, $failed failed"

@@ -49,7 +49,7 @@ def module_lines(module):
     yield from import_lines(module)
     yield from export_lines(module)
     for it in module["functions"]:
-        yield f"function {it['index']}{func_type(it['type'])} locals {it['locals']} instructions {it['instructions']}"
+        yield f"function {it['index']}{func_type(it['type'])} locals {it['locals']} instructions {it['instructions']}" + (f" name \"{it['name']}\"" if it["name"] is not None else "")
     for word, those in (("table", module["tables"]), ("memory", module["memories"])):
         yield from (word + limits(it) for it in those)
     for it in module["globals"]:

@@ -63,7 +63,7 @@ fn count_of(words: &[String]) -> Option<u32> {
 }
 
 /// The line of so many calls of the example contract.
-pub fn measured<R: Clock>(rt: &R, alloc: Global, words: &[String]) -> io::Result<Option<String>> {
+pub fn measure<R: Clock>(rt: &R, alloc: Global, words: &[String]) -> io::Result<Option<String>> {
     match count_of(words) {
         Some(count) => Ok(Some(line_of(rt, alloc, count)?)),
         None => Ok(None),

@@ -9,7 +9,7 @@ use std::thread::Threads;
 use std::time::Clock;
 
 /// The line of the two rates.
-pub fn measured<R: Threads + Wait + Clock + Sync>(
+pub fn measure<R: Threads + Wait + Clock + Sync>(
     rt: &R,
     alloc: Global,
     words: &[String],

@@ -44,7 +44,7 @@ pub const USAGE: &str = "usage: rows bench assemble TEXT
        rows bench block serial|mine|book|validate|board WORKERS WORLD CALLS";
 
 /// The line of what the words ask to measure. `None` where they ask for nothing.
-pub fn measured<R: Threads + Wait + Clock + std::rt::Files + Sync>(
+pub fn measure<R: Threads + Wait + Clock + std::rt::Files + Sync>(
     rt: &R,
     alloc: Global,
     words: &[String],
@@ -53,15 +53,15 @@ pub fn measured<R: Threads + Wait + Clock + std::rt::Files + Sync>(
         return Ok(None);
     };
     match name.as_str() {
-        "assemble" => texts::measured(rt, alloc, words),
-        "load" => loads::measured(rt, alloc, words),
-        "run" => machine::measured(rt, alloc, words),
-        "debug" => sessions::measured(rt, alloc, words),
-        "draw" => draws::measured(rt, alloc, words),
-        "operate" => operations::measured(rt, alloc, words),
-        "serial" => blocks::measured(rt, alloc, words),
-        "mine" => mined::measured(rt, alloc, words),
-        "block" => verdicts::measured(rt, alloc, words),
+        "assemble" => texts::measure(rt, alloc, words),
+        "load" => loads::measure(rt, alloc, words),
+        "run" => machine::measure(rt, alloc, words),
+        "debug" => sessions::measure(rt, alloc, words),
+        "draw" => draws::measure(rt, alloc, words),
+        "operate" => operations::measure(rt, alloc, words),
+        "serial" => blocks::measure(rt, alloc, words),
+        "mine" => mined::measure(rt, alloc, words),
+        "block" => verdicts::measure(rt, alloc, words),
         _ => Ok(None),
     }
 }

@@ -32,7 +32,7 @@ fn line_of<R: Clock>(
 }
 
 /// The line of the run that the words ask for.
-pub fn measured<R: Clock + std::rt::Files>(
+pub fn measure<R: Clock + std::rt::Files>(
     rt: &R,
     alloc: Global,
     words: &[String],

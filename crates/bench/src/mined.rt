@@ -18,7 +18,7 @@ use std::sync::Wait;
 use std::thread::Threads;
 use std::time::{Clock, Instant};
 use storage::Cells;
-use world::{World, copied, digest_world};
+use world::{World, copy_contracts, digest_world};
 use wtypes::NoMemory;
 
 /// How often a worker tries a call.
@@ -86,7 +86,7 @@ fn run<R: Threads + Wait + Sync>(
 
 /// The digest of the world after the cells became these, in hexadecimal digits.
 fn digest_after(alloc: Global, world: &World, cells: Cells) -> io::Result<String> {
-    let Ok(contracts) = copied(alloc, world.contracts()) else {
+    let Ok(contracts) = copy_contracts(alloc, world.contracts()) else {
         return Err(refused());
     };
     let Ok(digest) = digest_world(alloc, &World::new(contracts, cells)) else {
@@ -126,7 +126,7 @@ fn line_of<R: Threads + Wait + Clock + Sync>(
 }
 
 /// The line of the calls that the words give.
-pub fn measured<R: Threads + Wait + Clock + std::rt::Files + Sync>(
+pub fn measure<R: Threads + Wait + Clock + std::rt::Files + Sync>(
     rt: &R,
     alloc: Global,
     words: &[String],

@@ -8,7 +8,7 @@ use std::io;
 use std::time::{Clock, Instant};
 
 /// The line of the time that one operation takes.
-pub fn measured<R: Clock>(rt: &R, alloc: Global, words: &[String]) -> io::Result<Option<String>> {
+pub fn measure<R: Clock>(rt: &R, alloc: Global, words: &[String]) -> io::Result<Option<String>> {
     let Some(load) = Load::of_words(words) else {
         return Ok(None);
     };

@@ -22,7 +22,7 @@ fn line_of<R: Clock>(rt: &R, alloc: Global, bytes: &[u8]) -> io::Result<String> 
 }
 
 /// The line of the text in the file that the word names.
-pub fn measured<R: Clock + std::rt::Files>(
+pub fn measure<R: Clock + std::rt::Files>(
     rt: &R,
     alloc: Global,
     words: &[String],

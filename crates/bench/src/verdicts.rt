@@ -217,7 +217,7 @@ fn line_of<R: Threads + Wait + Clock + Sync>(
 }
 
 /// The line of the task that the words give.
-pub fn measured<R: Threads + Wait + Clock + std::rt::Files + Sync>(
+pub fn measure<R: Threads + Wait + Clock + std::rt::Files + Sync>(
     rt: &R,
     alloc: Global,
     words: &[String],

@@ -3,4 +3,4 @@ pub mod Profiles
 pub mod Stages
 pub mod Sums
 mod Latest
-mod Told
+mod BlockStatements

@@ -4,9 +4,9 @@ ghost use Rattle.spec_execution.specs.Run.{IsReply};
 ghost use Rattle.spec_ledger.specs.declared.Version.TheVariants.{Two};
 ghost use Rattle.interp.specs.Callee.{setting_view};
 ghost use Rattle.interp.specs.Progress.{IsFree, IsSameCall};
-ghost use Rattle.serial.specs.Going.{MayGoOn, IsEnded};
+ghost use Rattle.serial.specs.MachineProgress.{MayGoOn, IsEnded};
 ghost use Rattle.serial.specs.Runs.{IsRunOf};
-ghost use Rattle.book_workers.specs.Handed.{IsCommitted};
+ghost use Rattle.book_workers.specs.CommittedRuns.{IsCommitted};
 
 use crate::Intake;
 use crate::admission::AdmissionLimit;

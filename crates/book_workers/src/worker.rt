@@ -3,7 +3,7 @@ ghost use Rattle.std.specs.Prelude.{◌≡◌, ◌<◌, IfOk, OnOk, length};
 ghost use Rattle.spec_ledger.specs.declared.Version.TheVariants.{Two};
 ghost use Rattle.interp.specs.Callee.{setting_view};
 ghost use Rattle.book_workers.specs.Intakes.{IsSeatOf};
-ghost use Rattle.book_workers.specs.Handed.{AreRuns};
+ghost use Rattle.book_workers.specs.CommittedRuns.{AreRuns};
 
 use crate::Seat;
 use crate::attempt::{CallResult, CommittedRun, Job, try_call};

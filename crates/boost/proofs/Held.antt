@@ -19,7 +19,7 @@ use Rattle.spec_ledger.proofs.Traces.{All-weaken, get-touched_by, ops_of-append,
 use Rattle.spec_ledger.proofs.Kept.{All-with, All-without}
 use Rattle.abstract_locks.specs.Table.{AllShare, asked, others}
 use Rattle.abstract_locks.proofs.Rows.{split_row}
-use Rattle.boost.specs.Kept.{rows_with}
+use Rattle.boost.specs.BookInvariant.{rows_with}
 
 -- ---- rows
 

@@ -15,7 +15,7 @@ use Rattle.storage.proofs.Counted.{closed_all-opened_all, AreCounts-empty, AreCo
 use Rattle.boost.specs.Counted.{live_counts}
 use Rattle.boost.specs.declared.standing.CallState.{CallState}
 use Rattle.boost.specs.declared.standing.CallState.TheVariants.{Idle}
-use Rattle.boost.specs.Kept.{IsBook, IsPlace, rows_with, committed_with, live_with}
+use Rattle.boost.specs.BookInvariant.{IsBook, IsPlace, rows_with, committed_with, live_with}
 use Rattle.boost.specs.Marks.{IsLeft, since, left_with}
 use Rattle.boost.proofs.Counted.{live_counts_out, AreCounts-live}
 use Rattle.boost.proofs.Events.{split, below_here, found_here, counts_out, only_here}

@@ -8,7 +8,7 @@ use Rattle.spec_ledger.specs.Modes.{Modes}
 use Rattle.storage.specs.Counts.{Counts}
 use Rattle.boost.specs.declared.standing.CallState.{CallState}
 use Rattle.boost.specs.declared.standing.CallState.TheVariants.{Idle}
-use Rattle.boost.specs.Kept.{IsBook}
+use Rattle.boost.specs.BookInvariant.{IsBook}
 use Rattle.boost.specs.Play.{opened}
 
 IsBook-alone : (cells : Cells) (calls : ℕ) → AreCells cells → calls < 2 ^ 32 → IsBook (opened cells calls) empty (replicate calls empty) (replicate calls Idle)

@@ -17,7 +17,7 @@ use Rattle.storage.specs.Counts.{Counts}
 use Rattle.boost.specs.Counted.{live_counts}
 use Rattle.boost.specs.declared.standing.CallState.{CallState}
 use Rattle.boost.specs.declared.standing.CallState.TheVariants.{Idle}
-use Rattle.boost.specs.Kept.{IsBook, rows_with, committed_with, live_with}
+use Rattle.boost.specs.BookInvariant.{IsBook, rows_with, committed_with, live_with}
 use Rattle.boost.specs.Numbered.{after_begin_with, BegunAs, BegunWith, marked}
 use Rattle.boost.proofs.Counted.{live_counts_out}
 use Rattle.boost.proofs.Levels.{same_rows}

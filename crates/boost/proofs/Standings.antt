@@ -7,7 +7,7 @@ use Rattle.spec_ledger.specs.Book.{Attempt, CommittedCall, AreAllSideBySide, cal
 use Rattle.spec_ledger.specs.Events.{HasNoAttempt}
 use Rattle.boost.specs.declared.standing.CallState.{CallState}
 use Rattle.boost.specs.declared.standing.CallState.TheVariants.{Idle, Live, Committed}
-use Rattle.boost.specs.Kept.{committed_with, live_with, AreStanding}
+use Rattle.boost.specs.BookInvariant.{committed_with, live_with, AreStanding}
 use Rattle.boost.proofs.Held.{AreBelow, no_other}
 
 -- ---- committed calls

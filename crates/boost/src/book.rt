@@ -4,7 +4,7 @@ ghost use Rattle.std.specs.List.{AllByRecursion};
 ghost use Rattle.spec_ledger.specs.Book.{Content, IsKept, IsGranted, extended, after_undo, after_commit, entry_of, call_is_new, settled};
 ghost use Rattle.spec_ledger.specs.Facts.{CellsAreSettledButForHolders, EntriesAreSerialRun, LiveAttemptsGoTogether, LiveTracesGetReplies};
 ghost use Rattle.spec_ledger.specs.Events.{IsStale, BeginDone, HasNoAttempt, OpDone, IsConflict, EnterDone, LeaveDone, IsNotEntered, UndoDone, CommitDone, IsOther, IsUndoneLast};
-ghost use Rattle.boost.specs.Kept.{AreStanding, IsBook, IsPlace};
+ghost use Rattle.boost.specs.BookInvariant.{AreStanding, IsBook, IsPlace};
 ghost use Rattle.boost.specs.Numbered.{BegunAs, BegunWith, HasTrace, IsPassed};
 ghost use Rattle.spec_ledger.specs.Modes.{ops_of};
 ghost use Rattle.std.specs.FinMap as finite;
@@ -157,7 +157,7 @@ pub struct Book<A: Allocator = Global> {
 impl<A: Allocator> Model for Book<A> {
     ghost use Rattle.spec_ledger.specs.Book.{Content};
     ghost use Rattle.spec_ledger.specs.Codes.{coded_content};
-    ghost use Rattle.boost.specs.Kept.{IsBook};
+    ghost use Rattle.boost.specs.BookInvariant.{IsBook};
     ghost use Rattle.std.specs.Prelude.{◌+◌, ◌≤◌, vec_len, vec_capacity};
 
     ghost Value = { Content };

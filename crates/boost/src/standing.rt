@@ -1,7 +1,7 @@
 // How each call of a book stands.
 ghost use Rattle.std.specs.Prelude.{◌≡◌, ◌≢◌, ◌<◌, ◌≤◌, ℕ, Some, IfSome, IfNone, length, drop, slice_get};
 ghost use Rattle.std.specs.List.{AllByRecursion};
-ghost use Rattle.boost.specs.Kept.{live_with};
+ghost use Rattle.boost.specs.BookInvariant.{live_with};
 
 use crate::attempt::Attempt;
 use std::alloc::Allocator;

@@ -79,31 +79,3 @@ impl Call {
         self.fuel
     }
 }
-
-#[cfg(test)]
-mod tests {
-    use super::*;
-    use std::test::Fail;
-
-    #[test]
-    fn keeps_its_parts(rt: HostRuntime) -> Result<(), Fail> {
-        let alloc = rt.alloc();
-        let args = [Value::I64(7), Value::I32(-5)].to_vec(alloc)?;
-        let call = Call::new(3, "bump".to_string(alloc)?, args, 100).ok_or("within the limits")?;
-        assert_eq!(rt; call.contract(), 3);
-        assert_eq!(rt; call.entry(), "bump");
-        assert_eq!(rt; call.args(), [Value::I64(7), Value::I32(-5)].as_slice());
-        assert_eq!(rt; call.fuel(), 100);
-        Ok(())
-    }
-
-    #[test]
-    fn has_at_most_1024_arguments(rt: HostRuntime) -> Result<(), Fail> {
-        let alloc = rt.alloc();
-        let most = vec![in alloc; Value::I32(0); 1024]?;
-        assert!(rt; Call::new(0, "f".to_string(alloc)?, most, 1).is_some());
-        let more = vec![in alloc; Value::I32(0); 1025]?;
-        assert!(rt; Call::new(0, "f".to_string(alloc)?, more, 1).is_none());
-        Ok(())
-    }
-}

@@ -1,7 +1,7 @@
 //! Files that are read and written.
 
-ghost use Rattle.std.specs.Prelude.{◌≡◌, OnOk, OnErr, IsTrue};
-ghost use Rattle.wblock_io.specs.Holding.{Changes, IsFailed};
+ghost use Rattle.std.specs.Prelude.{◌≡◌, OnOk, OnErr, IfErr, IsTrue};
+ghost use Rattle.wblock_io.specs.Holding.{Changes, IsNoted};
 
 use wblock_io::{Files, WriteFault};
 
@@ -10,7 +10,7 @@ pub fn write_file<F: Files>(files: &mut F, name: &str, bytes: &[u8]) -> Result<(
     ensures written { OnOk result (IsTrue F.tells → Changes (F.holds files.old) (F.holds files.new) name.now bytes.now) }
     ensures same { OnErr result (IsTrue F.tells → F.holds files.new ≡ F.holds files.old) }
     ensures calm { OnOk result (F.failures files.new ≡ F.failures files.old) }
-    ensures counted { OnErr result (IsFailed name.now (F.failures files.old) (F.failures files.new)) }
+    ensures counted { IfErr result (λ fault. IsNoted fault name.now (F.failures files.old) (F.failures files.new)) }
 {
     wblock_io::write_file(files, name, bytes)
 }

@@ -13,13 +13,13 @@ use Rattle.spec_execution.proofs.footprints.Access.TheSendSync as access
 use Rattle.spec_ledger.proofs.Version.TheSendSync as version
 use Rattle.serial.proofs.Crossing.{crosses, vec_send, contract_sync, contracts_send, cells_sync}
 use Rattle.lanes.specs.declared.queue_rule.ItemFact as fact
-use Rattle.lanes.specs.contracts.handover.TypedQueue as line_row
+use Rattle.lanes.specs.contracts.typed_queue.TypedQueue as line_row
 use Rattle.lanes.specs.contracts.pass.QueuePass as pass_row
-use Rattle.lanes.proofs.handover.TypedQueue.TheSendSync as line
+use Rattle.lanes.proofs.typed_queue.TypedQueue.TheSendSync as line
 use Rattle.lanes.proofs.pass.QueuePass.TheSendSync as pass
 use Rattle.in_order.specs.contracts.InOrder as job_row
 use Rattle.in_order.specs.contracts.Task as task_row
-use Rattle.in_order.specs.contracts.footprints.SpeculativeRuns as share_row
+use Rattle.in_order.specs.contracts.speculative_run.SpeculativeRuns as share_row
 use Rattle.in_order.specs.contracts.line.Batch as batch_row
 use Rattle.in_order.specs.contracts.post.QueueEnd as post_row
 

@@ -6,7 +6,7 @@ use Rattle.spec_execution.specs.Configuration.{Setting}
 use Rattle.spec_execution.specs.Run.{ContractCall}
 use Rattle.spec_execution.specs.declared.footprints.Access.{Access}
 use Rattle.serial.specs.Calls.{IsFootprintOf}
-use Rattle.in_order.specs.declared.footprints.SpeculativeRun.{SpeculativeRun}
+use Rattle.in_order.specs.declared.speculative_run.SpeculativeRun.{SpeculativeRun}
 use Rattle.in_order.specs.Shares.{IsSpeculativeRun, AreAllPrepared}
 
 -- a part of a list is the same part of a longer one

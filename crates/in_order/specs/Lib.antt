@@ -1,3 +1,3 @@
 pub mod Progress
 pub mod Shares
-pub mod Handed
+pub mod Queues

@@ -5,8 +5,8 @@ use Rattle.spec_execution.specs.Run.{ContractCall}
 use Rattle.spec_execution.specs.declared.footprints.Access.{Access}
 use Rattle.interp.specs.Callee.{setting_view}
 use Rattle.serial.specs.Calls.{IsFootprintOf}
-use Rattle.in_order.specs.declared.footprints.SpeculativeRun.{SpeculativeRun}
-use Rattle.in_order.specs.declared.footprints.SpeculativeRuns.{SpeculativeRuns}
+use Rattle.in_order.specs.declared.speculative_run.SpeculativeRun.{SpeculativeRun}
+use Rattle.in_order.specs.declared.speculative_run.SpeculativeRuns.{SpeculativeRuns}
 use Rattle.in_order.specs.declared.Task.{Task}
 
 -- a call's own part of the accesses

@@ -4,8 +4,8 @@ ghost use Rattle.std.specs.Prelude.{◌<◌, IfOk, OnOk};
 ghost use Rattle.in_order.specs.Progress.{IsKnown};
 ghost use Rattle.in_order.specs.Shares.{AreSpeculativeRunsOf};
 
-use crate::footprints::{SpeculativeRuns, open_speculative_runs, run_speculatively};
 use crate::line::Batch;
+use crate::speculative_run::{SpeculativeRuns, open_speculative_runs, run_speculatively};
 use crate::straight::must_stop_before;
 use crate::{InOrder, NO_MORE};
 use pace::Pace;

@@ -2,14 +2,14 @@
 
 ghost use Rattle.std.specs.Prelude.{◌≤◌, All, IfOk, IfSome};
 ghost use Rattle.in_order.specs.Progress.{IsKnown, IsProgressOf};
-ghost use Rattle.in_order.specs.Handed.{IsQueueEndOf, IsReorderBufferOf};
+ghost use Rattle.in_order.specs.Queues.{IsQueueEndOf, IsReorderBufferOf};
 ghost use Rattle.in_order.specs.Shares.{AreSpeculativeRunsOf};
 
 use crate::ahead_of_turn::{BatchRun, batch_of, draw, run_batch};
-use crate::footprints::SpeculativeRuns;
 use crate::line::{BatchQueue, make_queue_ends};
 use crate::post::QueueEnd;
 use crate::reorder_buffer::{ReorderBuffer, keep, open_reorder_buffer, place, take_in, take_out};
+use crate::speculative_run::SpeculativeRuns;
 use crate::straight::{StraightRun, run_straight, run_to};
 use crate::turns::do_next;
 use crate::working::{work, work_all};

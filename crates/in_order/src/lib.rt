@@ -5,11 +5,11 @@
 #![tactic(auto)]
 
 mod ahead_of_turn;
-mod footprints;
 mod leading;
 mod line;
 mod post;
 mod reorder_buffer;
+mod speculative_run;
 mod straight;
 mod turns;
 mod working;

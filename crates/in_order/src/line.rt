@@ -2,11 +2,11 @@
 
 ghost use Rattle.std.specs.Prelude.{◌≡◌, All, IfOk, IfSome};
 ghost use Rattle.lanes.specs.Passes.{IsPassOf};
-ghost use Rattle.in_order.specs.Handed.{IsQueueEndOf};
+ghost use Rattle.in_order.specs.Queues.{IsQueueEndOf};
 ghost use Rattle.in_order.specs.Shares.{AreSpeculativeRunsOf};
 
-use crate::footprints::SpeculativeRuns;
 use crate::post::QueueEnd;
+use crate::speculative_run::SpeculativeRuns;
 use crate::{InOrder, Task};
 use lanes::{ItemFact, QueuePass, TypedQueue};
 use pace::Pace;

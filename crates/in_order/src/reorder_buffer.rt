@@ -1,13 +1,13 @@
 //! What was run ahead of its turn and has come, by batches of positions.
 
 ghost use Rattle.std.specs.Prelude.{IfOk, IfSome};
-ghost use Rattle.in_order.specs.Handed.{IsQueueEndOf, IsReorderBufferOf};
+ghost use Rattle.in_order.specs.Queues.{IsQueueEndOf, IsReorderBufferOf};
 ghost use Rattle.in_order.specs.Shares.{AreSpeculativeRunsOf};
 
 use crate::InOrder;
-use crate::footprints::SpeculativeRuns;
 use crate::line::{Batch, receive};
 use crate::post::QueueEnd;
+use crate::speculative_run::SpeculativeRuns;
 use pace::Pace;
 use spec_ledger::NoMemory;
 use std::alloc::Allocator;

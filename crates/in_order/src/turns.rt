@@ -9,7 +9,7 @@ ghost use Rattle.serial.specs.Runs.{IsRunOf};
 ghost use Rattle.in_order.specs.Progress.{IsKnown, IsNextRun, IsProgressOf};
 ghost use Rattle.in_order.specs.Shares.{IsPreparedOf};
 
-use crate::footprints::{SpeculativeRun, commit_if_valid};
+use crate::speculative_run::{SpeculativeRun, commit_if_valid};
 use crate::{InOrder, OrderProgress};
 use interp::finished::Finished;
 use pace::Pace;

@@ -2,7 +2,7 @@
 
 ghost use Rattle.std.specs.Prelude.{All};
 ghost use Rattle.in_order.specs.Progress.{IsKnown};
-ghost use Rattle.in_order.specs.Handed.{IsQueueEndOf};
+ghost use Rattle.in_order.specs.Queues.{IsQueueEndOf};
 
 use crate::InOrder;
 use crate::ahead_of_turn::{BatchRun, draw, run_batch};

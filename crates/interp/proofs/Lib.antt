@@ -1,4 +1,4 @@
-pub mod Going
+pub mod Progress
 pub mod Opened
 pub mod Outlook
 mod LeftNext

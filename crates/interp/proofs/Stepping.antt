@@ -6,7 +6,7 @@ use Rattle.interp.specs.declared.turns.Turn.{Turn}
 use Rattle.interp.specs.declared.turns.Turn.TheVariants as turn
 use Rattle.interp.specs.Progress.{Progress, NextIs, IsToldAt, IsSameCall, WantsMemory, MayTakeMemory, GoesOn, IsFree}
 use Rattle.interp.specs.Machine.{Seen, IsAt, IsMachine}
-use Rattle.interp.specs.Going.{AreSteps, none, one_more, HasTurned}
+use Rattle.interp.specs.Turns.{AreSteps, none, one_more, HasTurned}
 
 pub free_of : (x : Status) → GoesOn x → IsFree x
 free_of status.Running h = tt

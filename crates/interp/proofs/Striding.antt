@@ -12,8 +12,8 @@ use Rattle.interp_steps.specs.StraightLine.{Walks, IsSafeFor}
 use Rattle.interp_steps.specs.StraightLine as walk
 use Rattle.interp.specs.declared.turns.Status.TheVariants as status
 use Rattle.interp.specs.Machine.{Seen, progress, IsMachine}
-use Rattle.interp.specs.Going.{AreSteps}
-use Rattle.interp.specs.Going as going
+use Rattle.interp.specs.Turns.{AreSteps}
+use Rattle.interp.specs.Turns as going
 use Rattle.interp.proofs.Stepping.{steps_fuel}
 use Rattle.interp.proofs.Turning.{below, safe_at, machine_stepped, has_stepped}
 

@@ -3,7 +3,7 @@ pub mod Shown
 pub mod Codes
 pub mod Played
 pub mod Progress
-pub mod Going
+pub mod Turns
 pub mod Machine
 pub mod Asked
 pub mod Callee

@@ -71,7 +71,7 @@ impl<'a, A: Allocator + Copy> Finished<'a, A> {
 
     /// The empty run of a call that does not start, with the number of the cause as its outcome. None where the call
     /// opens. Takes no memory.
-    pub fn rejected(
+    pub fn of_rejection(
         alloc: A,
         contracts: &'a [Deployed<A>],
         call: &'a Call,

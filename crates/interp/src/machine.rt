@@ -4,7 +4,7 @@ ghost use Rattle.spec_execution.specs.Run.{Opens, opening};
 ghost use Rattle.interp.specs.Machine.{progress};
 ghost use Rattle.interp.specs.Progress.{NextIs, IsSameCall, WantsMemory, IsTold, IsFree, IsAwaited, HasAnswered, IsFinishOf, IsProgress, IsUnfinished, IsStartOf};
 ghost use Rattle.interp.specs.Run.{seen, IsKept};
-ghost use Rattle.interp.specs.Going.{HasTurned};
+ghost use Rattle.interp.specs.Turns.{HasTurned};
 ghost use Rattle.link.specs.Parts.{hosts_of};
 ghost use Rattle.instance.specs.Views.{contract_of};
 ghost use Rattle.spec_ledger.specs.declared.Version.TheVariants.{Two};

@@ -4,7 +4,7 @@ ghost use Rattle.interp.specs.Asked.{number_of};
 ghost use Rattle.interp.specs.Machine.{progress, HasRoom, IsShut};
 ghost use Rattle.interp.specs.Progress.{NextIs, IsToStop, IsSameCall, MayTakeMemory, WantsMemory, IsTold, IsFree, LastIs};
 ghost use Rattle.interp.specs.Run.{seen, IsKept};
-ghost use Rattle.interp.specs.Going.{AreSteps, HasTurned};
+ghost use Rattle.interp.specs.Turns.{AreSteps, HasTurned};
 
 use crate::functions::{give_up, start_function};
 use crate::imports::ask;

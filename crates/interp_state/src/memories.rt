@@ -26,7 +26,7 @@ pub fn execute_load<A: Allocator + Copy>(
     ensures { DidLoad operator offset memory.now.bytes stack.old.items result stack.new.items }
 {
     let place = pop_top(stack);
-    match loaded(operator, offset, place, memory) {
+    match load_value(operator, offset, place, memory) {
         Ok(value) => {
             put_back(stack, value);
             After::Ran
@@ -41,7 +41,7 @@ pub fn execute_load<A: Allocator + Copy>(
 ///
 /// The trap: its bytes do not all lie in memory.
 #[inline(always)]
-pub fn loaded<A: Allocator + Copy>(
+pub fn load_value<A: Allocator + Copy>(
     operator: LoadOp,
     offset: u32,
     place: Value,
@@ -70,7 +70,7 @@ pub fn execute_store<A: Allocator + Copy>(
 {
     let value = pop_top(stack);
     let place = pop_top(stack);
-    match stored(operator, offset, place, value, memory) {
+    match store_value(operator, offset, place, value, memory) {
         Ok(()) => Ok(After::Ran),
         Err(StoreRefusal::Trap(code)) => Ok(After::Fell(code)),
         Err(StoreRefusal::NoMemory) => Err(AllocError),
@@ -83,7 +83,7 @@ pub fn execute_store<A: Allocator + Copy>(
 ///
 /// The trap: its bytes do not all lie in memory; else a page was refused. Nothing changes.
 #[inline(always)]
-pub fn stored<A: Allocator + Copy>(
+pub fn store_value<A: Allocator + Copy>(
     operator: StoreOp,
     offset: u32,
     place: Value,

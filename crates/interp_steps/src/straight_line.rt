@@ -12,9 +12,11 @@ use crate::steps::{arity, first};
 use interp_state::blocks::{open_in_room, settle};
 use interp_state::branches::{branch, repeat};
 use interp_state::callee::Callee;
-use interp_state::held::{changed, joined, pushed, takes_two, write_local};
-use interp_state::memories::{loaded, stored};
+use interp_state::memories::{load_value, store_value};
 use interp_state::parts::{Kind, Parts};
+use interp_state::plain_values::{
+    binary_result, pushed_value, takes_two, unary_result, write_local,
+};
 use interp_state::values::{bits, pop_top, put_back, top};
 use module_tree::instr::Instr;
 use std::alloc::Allocator;
@@ -80,7 +82,7 @@ fn begin<'a, A: Allocator + Copy>(
         }
         return (0, true);
     };
-    match pushed(op, &parts.locals) {
+    match pushed_value(op, &parts.locals) {
         Some(value) => {
             parts.code = rest;
             let (made, ends) = hold(lent, parts, value, most - 1);
@@ -171,7 +173,7 @@ fn hold<'a, A: Allocator + Copy>(
             }
             break;
         };
-        match pushed(op, &parts.locals) {
+        match pushed_value(op, &parts.locals) {
             Some(second) => {
                 match join_next(lent, parts, rest, held, second, most - made) {
                     Some((value, behind)) => {
@@ -246,7 +248,7 @@ fn join_next<'a, A: Allocator + Copy>(
         return None;
     }
     let (next, behind) = plain(rest)?;
-    let value = joined(next, first, second)?;
+    let value = binary_result(next, first, second)?;
     Some((value, behind))
 }
 
@@ -270,13 +272,13 @@ fn change_held<'a, A: Allocator + Copy>(
     ensures room { vec_len parts.new.stack < vec_capacity parts.new.stack }
     ensures max { parts.new.instance.memory.max ≡ parts.old.instance.memory.max }
 {
-    if let Some(value) = changed(op, held) {
+    if let Some(value) = unary_result(op, held) {
         parts.code = rest;
         return Some(value);
     }
     if takes_two(op) {
         let below = top(&parts.stack);
-        let value = joined(op, below, held)?;
+        let value = binary_result(op, below, held)?;
         let _below = pop_top(&mut parts.stack);
         parts.code = rest;
         return Some(value);
@@ -288,7 +290,7 @@ fn change_held<'a, A: Allocator + Copy>(
             Some(held)
         }
         PlainInstr::Load(operator, _, offset) => {
-            match loaded(*operator, *offset, held, &parts.instance.memory) {
+            match load_value(*operator, *offset, held, &parts.instance.memory) {
                 Ok(value) => {
                     parts.code = rest;
                     Some(value)
@@ -338,7 +340,7 @@ fn let_go<'a, A: Allocator + Copy>(
         PlainInstr::Store(operator, _, offset) => {
             let place = top(&parts.stack);
             let memory = &mut parts.instance.memory;
-            match stored(*operator, *offset, place, held, memory) {
+            match store_value(*operator, *offset, place, held, memory) {
                 Ok(()) => {
                     let _place = pop_top(&mut parts.stack);
                     parts.code = rest;

@@ -1,7 +1,7 @@
 -- The passes of a handover.
 use Rattle.std.specs.Prelude.{◌≡◌, Some}
 use Rattle.crossbeam_queue.specs.Passes as queue
-use Rattle.lanes.specs.declared.handover.TypedQueue.{TypedQueue}
+use Rattle.lanes.specs.declared.typed_queue.TypedQueue.{TypedQueue}
 use Rattle.lanes.specs.declared.pass.QueuePass.{QueuePass}
 
 -- a pass that this handover gave, and that knows its key

@@ -2,26 +2,24 @@
 //! worker may steal from it; and a bounded queue, each of whose items is known to meet one fact beside a key that was fixed when the queue was opened.
 #![tactic(auto)]
 
-mod handover;
 mod lane;
 mod parcel;
 mod pass;
 mod queue_rule;
 mod rule;
-#[cfg(test)]
-mod tests;
 mod thief;
+mod typed_queue;
 
 ghost use Rattle.std.specs.Prelude.{◌≡◌, ◌<◌, ◌++◌, ◌∷◌, [], All, IfOk, OnOk, length, map, reverse};
 ghost use Rattle.lanes.specs.Lanes.{HasNothing, HaveWaysToOthers, IsNew, IsNewPair, LeadToOthers, deques_of, ends_of, others};
 
-pub use handover::TypedQueue;
 pub use lane::Lane;
 pub use pass::QueuePass;
 pub use queue_rule::ItemFact;
 use std::alloc::Allocator;
 pub use thief::Thief;
 use thief::Way;
+pub use typed_queue::TypedQueue;
 use wtypes::NoMemory;
 
 /// An empty lane for each worker.

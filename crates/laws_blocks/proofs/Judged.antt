@@ -20,7 +20,7 @@ use Rattle.spec_block.specs.Bytes.{IsPosition, SpellsBlock, block_bytes}
 use Rattle.spec_block.specs.Verdicts.{Verdict, Malformed, WrongWorld, WrongCalls, BadOrder, OverBudget, RoomLeft, BadTurns, Deviates, WrongEnd, Accept, place, HasTurn, Holds, HoldsOf}
 use Rattle.block_judge.specs.Meeting.{IsAbsent, IsJudged, IsVerdictWith, Meets, least_fuel}
 use Rattle.laws_blocks.specs.CallsWorked.{adds_and_reads, alone_with, counted, counts, on_key_nine, only, returned}
-use Rattle.laws_blocks.specs.Worked.{at_turn, both, both_bytes, counter, holds, left_by_the_first, one_counter, two_calls}
+use Rattle.laws_blocks.specs.SmallBlocks.{at_turn, both, both_bytes, counter, holds, left_by_the_first, one_counter, two_calls}
 use Rattle.laws_blocks.proofs.Digests.{is_digest}
 use Rattle.laws_blocks.proofs.Waves.{some_is}
 

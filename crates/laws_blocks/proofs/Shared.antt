@@ -14,7 +14,7 @@ use Rattle.figures.specs.declared.outcomes.OutcomeKind.TheVariants.{Returned, Tr
 use Rattle.figures.specs.Hottest.{AreHottest, IsShared, holders}
 use Rattle.figures.specs.Outcomes.{all_kinds, counts_among}
 use Rattle.wtypes.specs.declared.TrapCode.TheVariants.{Unreachable}
-use Rattle.laws_blocks.specs.Worked.{counter, holds, one_of, one_trapped, shared_by, two_and_one}
+use Rattle.laws_blocks.specs.SmallBlocks.{counter, holds, one_of, one_trapped, shared_by, two_and_one}
 
 -- a lock that such a profile holds is its own
 is_its : (e : Entry) (lock : Lock) → is_some (hold_in lock (e ∷ [])) ≡ true → lock ≡ e.lock

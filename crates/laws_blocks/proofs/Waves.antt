@@ -10,7 +10,7 @@ use Rattle.spec_block.specs.Schedule.{hold_in, Holds, IsEdge, IsPath, here, alon
 use Rattle.figures.specs.Chains.{path_weight, AreForward, IsChain}
 use Rattle.figures.specs.declared.figures.Chains.{Chains}
 use Rattle.figures.specs.Figures.{AreChains, IsCount}
-use Rattle.laws_blocks.specs.Worked.{adds_then_reads, counter, holds, reads_then_adds}
+use Rattle.laws_blocks.specs.SmallBlocks.{adds_then_reads, counter, holds, reads_then_adds}
 
 pub some_is : {A : Type 0} (x y : A) → Some x ≡ Some y → x ≡ y
 some_is x y e = cc e

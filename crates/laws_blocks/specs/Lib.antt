@@ -1,3 +1,3 @@
 pub mod Timetables
-pub mod Worked
+pub mod SmallBlocks
 pub mod CallsWorked

@@ -15,7 +15,7 @@ ghost use Rattle.figures.specs.Figures.{AreChains, IsCount};
 ghost use Rattle.figures.specs.Hottest.{AreHottest};
 ghost use Rattle.figures.specs.Outcomes.{all_kinds, counts_among};
 ghost use Rattle.block_judge.specs.Meeting.{IsAbsent, IsVerdictWith, Meets};
-ghost use Rattle.laws_blocks.specs.Worked.{adds_then_reads, both_bytes, counter, left_by_the_first, one_counter, one_of, one_trapped, reads_then_adds, shared_by, two_and_one, two_calls};
+ghost use Rattle.laws_blocks.specs.SmallBlocks.{adds_then_reads, both_bytes, counter, left_by_the_first, one_counter, one_of, one_trapped, reads_then_adds, shared_by, two_and_one, two_calls};
 
 use crate::calls::calls_one_after_another;
 

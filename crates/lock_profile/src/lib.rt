@@ -66,7 +66,7 @@ impl<A: Allocator> Touched<A> {
     }
 
     /// The locks with their modes, in lock order.
-    pub fn held(&self) -> &[Held]
+    pub fn lock_modes(&self) -> &[Held]
         ensures { pairs result.now ≡ finite.entries self.now }
     {
         &self.held
@@ -279,7 +279,7 @@ fn all_holders<A: Allocator + Copy>(
 {
     let mut holders = Vec::new(alloc);
     for one in touched {
-        add_holders(&mut holders, one.held())?;
+        add_holders(&mut holders, one.lock_modes())?;
     }
     Ok(holders)
 }
@@ -345,7 +345,7 @@ fn profile_with<A: Allocator + Copy>(
     requires { start + length (finite.entries touched.now) ≤ length turns.now }
     ensures { IfOk result (λ profile. profile ≡ with_turns (finite.entries touched.now) (drop start turns.now)) }
 {
-    let entries = entries_with(alloc, touched.held(), turns, start)?;
+    let entries = entries_with(alloc, touched.lock_modes(), turns, start)?;
     Ok(Profile { entries })
 }
 
@@ -364,7 +364,7 @@ pub fn turns<A: Allocator + Copy>(
     let mut start = 0;
     for one in touched {
         let profile = profile_with(alloc, one, &turns, start)?;
-        start += one.held().len();
+        start += one.lock_modes().len();
         profiles.push(profile)?;
     }
     Ok(profiles)

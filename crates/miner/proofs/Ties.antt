@@ -13,8 +13,8 @@ use Rattle.publish.specs.Publication.{Publication}
 use Rattle.publish.specs.declared.adopting.CallRun.{CallRun}
 use Rattle.publish.specs.Adoption.{IsMade, AreMade}
 use Rattle.book_workers.specs.declared.attempt.CommittedRun.{CommittedRun}
-use Rattle.book_workers.specs.Handed.{IsCommitted, AreAllRuns}
-use Rattle.miner.specs.Handed.{IsMadeRun}
+use Rattle.book_workers.specs.CommittedRuns.{IsCommitted, AreAllRuns}
+use Rattle.miner.specs.CallRuns.{IsMadeRun}
 
 pub made_push : {A : Type 0} (setting : Setting) (calls : List ContractCall) (rs : List (CallRun A)) (ms : List Modes) (r : CallRun A) (m : Modes) → AreMade setting calls rs ms → IsMade setting calls r m → AreMade setting calls (rs ++ r ∷ []) (ms ++ m ∷ [])
 made_push setting calls [] [] r m made one = (one, tt)

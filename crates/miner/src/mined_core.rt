@@ -8,8 +8,8 @@ ghost use Rattle.interp.specs.Callee.{setting_view};
 ghost use Rattle.serial.specs.Positions.{results_of};
 ghost use Rattle.book_workers.specs.Intakes.{IsSeatOf};
 ghost use Rattle.publish.specs.Publication.{AreLeft, limits, fuel_of_results};
-ghost use Rattle.book_workers.specs.Handed.{AreRuns};
-ghost use Rattle.miner.specs.Handed.{IsSerialBook};
+ghost use Rattle.book_workers.specs.CommittedRuns.{AreRuns};
+ghost use Rattle.miner.specs.CallRuns.{IsSerialBook};
 
 use crate::list_order::mine_in_order;
 use crate::outcome::publish;

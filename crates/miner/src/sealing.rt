@@ -15,7 +15,7 @@ use serial::{Core, positions_of};
 use spec_ledger::{Receipt, Version};
 use std::alloc::Allocator;
 use std::thread::{Threads, join};
-use world::{World, copied, digest_world};
+use world::{World, copy_contracts, digest_world};
 use wtypes::NoMemory;
 
 /// SHA-256 of what a block is made of.
@@ -157,7 +157,7 @@ pub(crate) fn build_block_by<R: Threads + Sync, A: Allocator + Copy + Send + Syn
         touched,
         cells,
     } = core;
-    let next = World::new(copied(alloc, world.contracts())?, cells);
+    let next = World::new(copy_contracts(alloc, world.contracts())?, cells);
     let (digests, told) = digests_and_parts(
         rt, &alloc, world, calls, order, &receipts, &touched, &next, workers,
     )?;

@@ -1,6 +1,6 @@
 //! The fields of a module (Core Specification, 6.6 Modules).
 
-use crate::funcs::{put_func_type, put_function, put_type_use};
+use crate::funcs::{note_function, put_func_type, put_function, put_type_use};
 use crate::instrs::put_expression;
 use crate::names::FuncName;
 use crate::page::Page;
@@ -75,7 +75,7 @@ fn put_import<A: Allocator>(
             page.put_given_name(numbers.funcs)?;
             put_type_use(page, type_index)?;
             page.put("))")?;
-            page.note("function ", numbers.funcs)?;
+            note_function(page, numbers.funcs)?;
             numbers.funcs = numbers.funcs.saturating_add(1);
             Ok(())
         }
@@ -224,13 +224,14 @@ fn put_tail<A: Allocator>(page: &mut Page<'_>, module: &Module<A>) -> Result<(),
     Ok(())
 }
 
-/// The text of a module with these names of its functions.
-pub(crate) fn module_text<A: Allocator>(
+/// The text of a module with these names of its functions, and these in comments.
+pub(crate) fn module_text<'m, A: Allocator>(
     alloc: alloc::Global,
     module: &Module<A>,
-    names: Vec<FuncName<'_>>,
+    names: Vec<FuncName<'m>>,
+    told: &'m [(u32, &'m str)],
 ) -> Result<String, TextRefusal> {
-    let mut page = Page::new(alloc, names);
+    let mut page = Page::new(alloc, names, told);
     let mut numbers = Numbers {
         funcs: 0,
         globals: 0,

@@ -3,6 +3,7 @@
 use crate::instrs::put_instrs;
 use crate::page::Page;
 use crate::refusal::TextRefusal;
+use crate::strings::put_name;
 use module_tree::module::Func;
 use std::alloc::Allocator;
 use wtypes::{FuncType, ValType};
@@ -61,6 +62,16 @@ fn put_signature<A: Allocator>(
     Ok(())
 }
 
+/// A comment behind the head of a function: its number, and the name that is told of it, if any.
+pub(crate) fn note_function(page: &mut Page<'_>, number: usize) -> Result<(), TextRefusal> {
+    page.note("function ", number)?;
+    if let Some(name) = page.told_name(number) {
+        page.put(" ")?;
+        put_name(page, name)?;
+    }
+    Ok(())
+}
+
 /// The function of this number, imports counted first, of one of these types.
 pub(crate) fn put_function<A: Allocator>(
     page: &mut Page<'_>,
@@ -72,7 +83,7 @@ pub(crate) fn put_function<A: Allocator>(
     page.put("(func")?;
     page.put_given_name(number)?;
     put_type_use(page, func.type_index)?;
-    page.note("function ", number)?;
+    note_function(page, number)?;
     let mut params = 0;
     if let Some(func_type) = types.get(func.type_index as usize) {
         put_signature(page, func_type)?;

@@ -1,12 +1,12 @@
 //! Whether a text names a module, by the assembler.
 
-ghost use Rattle.std.specs.Prelude.{◌≡◌, ◌↔◌, IfOk, IsTrue};
+ghost use Rattle.std.specs.Prelude.{◌≡◌, ◌↔◌, IfOk, IsTrue, string_bytes};
 ghost use Rattle.module_tree.specs.Modules.{module_view};
 ghost use Rattle.spec_text.specs.Names.{Names};
 ghost use Rattle.module_text.specs.Judging.{IsJudged};
 
 use crate::fields::module_text;
-use crate::names::FuncName;
+use crate::names::{FuncName, names_of};
 use crate::refusal::TextRefusal;
 use assembler::{AsmRefusal, assemble};
 use encoder::encode;
@@ -51,18 +51,37 @@ pub(crate) enum Judged {
     Unnamed,
 }
 
-/// The text of a module with these names of its functions, judged.
-pub(crate) fn judged_text<A: Allocator>(
+/// The text of a module with these names of its functions, and these in comments, judged.
+fn judged_text<'m, A: Allocator>(
     alloc: Global,
     tree: &Module<A>,
-    names: Vec<FuncName<'_>>,
+    names: Vec<FuncName<'m>>,
+    told: &'m [(u32, &'m str)],
 ) -> Result<Judged, TextRefusal>
     ensures { IfOk result (IsJudged (module_view tree.now)) }
 {
-    let text = module_text(alloc, tree, names)?;
+    let text = module_text(alloc, tree, names, told)?;
     if is_named(alloc, text.as_str(), tree)? {
         Ok(Judged::Named(text))
     } else {
         Ok(Judged::Unnamed)
+    }
+}
+
+/// A text that names the module, with these names in comments.
+pub(crate) fn told_text<A: Allocator>(
+    alloc: Global,
+    tree: &Module<A>,
+    told: &[(u32, &str)],
+) -> Result<String, TextRefusal>
+    ensures { IfOk result (λ text. Names (string_bytes text) (module_view tree.now)) }
+{
+    match judged_text(alloc, tree, names_of(alloc, tree)?, told)? {
+        Judged::Named(text) => Ok(text),
+        // The names clash: numbers do not.
+        Judged::Unnamed => match judged_text(alloc, tree, Vec::new(alloc), told)? {
+            Judged::Named(text) => Ok(text),
+            Judged::Unnamed => Err(TextRefusal::Unwritten),
+        },
     }
 }

@@ -6,19 +6,28 @@ use module_tree::limit::BYTE_LIMIT;
 use std::alloc::Global;
 use wtypes::{Limits, ValType};
 
-/// A text on its way, and the names of functions in it.
+/// A text on its way, the names of functions in it, and those that comments tell, in the order of the functions' numbers.
 #[derive(Drop)]
 pub(crate) struct Page<'m> {
     text: String,
     names: Vec<FuncName<'m>>,
+    told: &'m [(u32, &'m str)],
+    /// How many of these are told.
+    count_told: usize,
 }
 
 impl<'m> Page<'m> {
     /// Nothing is written yet.
-    pub(crate) fn new(alloc: Global, names: Vec<FuncName<'m>>) -> Page<'m> {
+    pub(crate) fn new(
+        alloc: Global,
+        names: Vec<FuncName<'m>>,
+        told: &'m [(u32, &'m str)],
+    ) -> Page<'m> {
         Page {
             text: String::new(alloc),
             names,
+            told,
+            count_told: 0,
         }
     }
 
@@ -77,6 +86,17 @@ impl<'m> Page<'m> {
     pub(crate) fn note(&mut self, word: &str, number: usize) -> Result<(), TextRefusal> {
         let digits = format!(in *self.text.allocator(); " ;; {word}{number}")?;
         self.put(digits.as_str())
+    }
+
+    /// The name that the comment behind this function tells, where it has one. Each function is asked for once, in the order of their numbers.
+    pub(crate) fn told_name(&mut self, func: usize) -> Option<&'m str> {
+        let told = self.told;
+        let (number, name) = *told.get(self.count_told)?;
+        if number as usize != func {
+            return None;
+        }
+        self.count_told = self.count_told.saturating_add(1);
+        Some(name)
     }
 
     /// A type.

@@ -4,8 +4,6 @@
 
 mod policy;
 mod spin_lock;
-#[cfg(test)]
-mod tests;
 
 ghost use Rattle.std.specs.Prelude.{◌≡◌, Bool, true, false};
 

@@ -4,7 +4,7 @@ use std::hint::spin_loop;
 use std::sync::{Mutex, MutexGuard, Wait};
 
 /// How often a lock that is held is looked at before the thread sleeps: some twenty to a hundred microseconds.
-pub(crate) const LOOKS: u32 = 2_000;
+const LOOKS: u32 = 2_000;
 
 /// Takes a lock that each thread holds for a few microseconds at most. While another holds it, it is looked at for a while, and only then does the thread
 /// sleep: to fall asleep and be woken takes longer than what is done under the lock, and a thread that is woken to a lock keeps all others from it until it

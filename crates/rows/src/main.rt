@@ -10,7 +10,7 @@ mod words;
 
 use crate::answers::Libraries;
 use crate::lines::do_step;
-use bench::{USAGE, measured};
+use bench::{USAGE, measure};
 use rows_script::Script;
 use std::alloc::Global;
 use std::str::from_utf8;
@@ -87,7 +87,7 @@ fn main(rt: HostRuntime) -> io::Result<()> {
     let Some(asked) = asked_of_bench(&words) else {
         return play_all(&rt, &rt, &words);
     };
-    match measured(&rt, rt.alloc(), asked)? {
+    match measure(&rt, rt.alloc(), asked)? {
         Some(line) => println!(rt; "{line}"),
         None => println!(rt; "{USAGE}"),
     }

@@ -20,7 +20,7 @@ pub fn put_receipt(out: &mut String, receipt: Receipt) -> Result<(), AllocError>
 
 /// Puts a line for each lock that is held.
 pub fn put_locks(out: &mut String, touched: &Touched) -> Result<(), AllocError> {
-    for held in touched.held() {
+    for held in touched.lock_modes() {
         let lock = held.lock;
         let mode = held.mode;
         writeln!(

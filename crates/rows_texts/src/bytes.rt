@@ -16,7 +16,7 @@ pub(crate) fn loaded(alloc: Global, bytes: &[u8]) -> Result<String, Refused> {
 
 /// The module of these bytes, as text.
 pub(crate) fn module(alloc: Global, bytes: &[u8]) -> Result<String, Refused> {
-    Ok(text_of(alloc, &load(alloc, bytes)?)?)
+    Ok(text_of(alloc, &load(alloc, bytes)?, &[])?)
 }
 
 /// The shortest spelling of the module of these bytes, in hex.

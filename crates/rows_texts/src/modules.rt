@@ -31,7 +31,7 @@ fn spelled(alloc: Global, module: &Module<Global>) -> Result<String, Refused> {
 
 /// The bytes of the module that the text of this module names, in hex.
 fn spelled_again(alloc: Global, module: &Module<Global>) -> Result<String, Refused> {
-    let text = text_of(alloc, module)?;
+    let text = text_of(alloc, module, &[])?;
     let read = assemble(alloc, text.as_str())?;
     spelled(alloc, &read)
 }
@@ -60,10 +60,10 @@ pub(crate) fn again(alloc: Global, text: &str) -> Result<String, Refused> {
 
 /// The text that the module of a text is written as.
 pub(crate) fn written(alloc: Global, text: &str) -> Result<String, Refused> {
-    Ok(text_of(alloc, &assemble(alloc, text)?)?)
+    Ok(text_of(alloc, &assemble(alloc, text)?, &[])?)
 }
 
 /// The text that the module of these bytes is written as.
 pub(crate) fn written_of_bytes(alloc: Global, bytes: &[u8]) -> Result<String, Refused> {
-    Ok(text_of(alloc, &load(alloc, bytes)?)?)
+    Ok(text_of(alloc, &load(alloc, bytes)?, &[])?)
 }

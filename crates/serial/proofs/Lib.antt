@@ -7,7 +7,7 @@ pub mod Modes
 mod Joining
 pub mod Orders
 pub mod Redoing
-pub mod Going
+pub mod MachineProgress
 pub mod Causes
 pub mod Crossing
 pub mod BlocksLimits

@@ -9,7 +9,7 @@ use Rattle.interp.specs.declared.turns.Status.{Status}
 use Rattle.interp.specs.declared.turns.Status.TheVariants as status
 use Rattle.interp.specs.Progress.{Progress, IsSameCall, HasReplied, HasAnswered, AnsweredAt, GoesOn, IsFree, left_of, mark_of}
 use Rattle.serial.specs.declared.turn_loop.HostRequest.{HostRequest}
-use Rattle.serial.specs.Going.{HasComeTo, HasAskedFor, HasEntered, HasLeft, MayGoOn}
+use Rattle.serial.specs.MachineProgress.{HasComeTo, HasAskedFor, HasEntered, HasLeft, MayGoOn}
 
 -- what the loop over turns answered
 pub came_to : (p q : Progress) (o : Option HostRequest) (w : HostRequest) → o ≡ Some w → IfSome o (λ x. HasComeTo p x q) → HasComeTo p w q

@@ -2,7 +2,7 @@ pub mod Asking
 pub mod Playing
 pub mod Positions
 pub mod Beginning
-pub mod Going
+pub mod MachineProgress
 pub mod Ordered
 pub mod Runs
 pub mod Over

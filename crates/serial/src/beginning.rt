@@ -45,7 +45,7 @@ pub fn begin<'a, A: Allocator + Copy>(
     match Machine::start_as(alloc, contracts, call, version) {
         Ok(machine) => Ok(Begun::Runs(machine)),
         // Memory was refused where the call opens.
-        Err(_) => match Finished::rejected(alloc, contracts, call, version) {
+        Err(_) => match Finished::of_rejection(alloc, contracts, call, version) {
             Some(finished) => Ok(Begun::Ended(finished)),
             None => Err(NoMemory),
         },

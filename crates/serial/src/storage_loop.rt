@@ -6,7 +6,7 @@ ghost use Rattle.spec_ledger.specs.declared.TraceStep.TheVariants.{Did, Opened};
 ghost use Rattle.spec_execution.specs.Run.{IsReply};
 ghost use Rattle.interp.specs.Callee.{setting_view};
 ghost use Rattle.interp.specs.Progress.{IsFree, IsSameCall, mark_of};
-ghost use Rattle.serial.specs.Going.{MayGoOn, IsEnded};
+ghost use Rattle.serial.specs.MachineProgress.{MayGoOn, IsEnded};
 ghost use Rattle.serial.specs.Over.{AreSomeLeft, IsLed, LeadsOn, Leaves};
 
 use crate::{Begun, HostRequest, begin, next_request};

@@ -2,7 +2,7 @@
 
 ghost use Rattle.std.specs.Prelude.{IfOk, IfSome, OnErr, None, Ok, ◌≡◌};
 ghost use Rattle.interp.specs.Progress.{IsFree, IsProgress, IsSameCall};
-ghost use Rattle.serial.specs.Going.{HasComeTo, HasEnded, HasLacked};
+ghost use Rattle.serial.specs.MachineProgress.{HasComeTo, HasEnded, HasLacked};
 
 use interp::machine::Machine;
 use interp::turns::Turn;

@@ -42,7 +42,7 @@ fn outcome_of(a: Global, bytes: &[u8]) -> Result<Fate, Fail> {
     if encoded(a, &copy)?.as_slice() != bytes {
         return Ok(Fate::Miscopied);
     }
-    let Ok(text) = text_of(a, &tree) else {
+    let Ok(text) = text_of(a, &tree, &[]) else {
         return Ok(Fate::Unwritten);
     };
     let Ok(read) = assemble(a, text.as_str()) else {

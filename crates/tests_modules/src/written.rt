@@ -11,7 +11,7 @@ use std::test::Fail;
 
 // The shortest spelling of the module that the text of this module names.
 fn written_again(a: Global, tree: &Module<Global>) -> Result<Vec<u8>, Fail> {
-    let text = text_of(a, tree)?;
+    let text = text_of(a, tree, &[])?;
     let read = assemble(a, text.as_str())?;
     encoded(a, &read)
 }

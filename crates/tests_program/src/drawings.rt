@@ -8,8 +8,8 @@ use spec_ledger::Version;
 use std::alloc::Global;
 use wblock_picture::draw_block;
 
-/// A block, and how many boxes and lines its picture has. What it shows is told by `pictures.rows` of `rows`.
-type Row<'a> = (&'a str, &'a [u8], usize, usize);
+/// A block in hex digits, and how many boxes and lines its picture has. What it shows is told by `pictures.rows` of `rows`.
+type Row<'a> = (&'a str, &'a str, usize, usize);
 
 const ROWS: &[Row] = &[
     ("no calls", NO_CALLS, 0, 0),
@@ -18,9 +18,10 @@ const ROWS: &[Row] = &[
     ("eleven shared cells", ELEVEN, 3, 0),
 ];
 
-/// The picture of the block that bytes spell.
-fn drawn(alloc: Global, bytes: &[u8]) -> Option<String> {
-    let block = read_block(alloc, bytes).ok()?;
+/// The picture of the block that these digits spell.
+fn drawn(alloc: Global, digits: &str) -> Option<String> {
+    let bytes = hex::decode(alloc, digits).ok()?;
+    let block = read_block(alloc, bytes.as_slice()).ok()?;
     draw_block(alloc, &block).ok()
 }
 
@@ -84,8 +85,8 @@ fn has(alloc: Global, text: &str, boxes: usize, lines: usize) -> bool {
 
 /// Whether the picture of a row's block is as it says.
 fn is_as_told(alloc: Global, row: &Row) -> bool {
-    let (_, bytes, boxes, lines) = *row;
-    match drawn(alloc, bytes) {
+    let (_, digits, boxes, lines) = *row;
+    match drawn(alloc, digits) {
         None => false,
         Some(text) => has(alloc, text.as_str(), boxes, lines),
     }
@@ -126,8 +127,8 @@ fn crowd_drawn(alloc: Global, adders: usize, readers: usize) -> Option<String> {
     draw_block(alloc, &block).ok()
 }
 
-/// How many positions add and how many read; how many boxes and lines are drawn, and of the picture the counts, what is drawn of them, and the last box.
-type Crowd<'a> = (usize, usize, usize, usize, &'a str, &'a str, &'a str);
+/// How many positions add and how many read; how many boxes and lines are drawn, and of the picture the waves, what is drawn of them, and the last box.
+type Crowd<'a> = (usize, usize, usize, usize, usize, &'a str, &'a str);
 
 const CROWDS: &[Crowd] = &[
     // the most lines
@@ -136,7 +137,7 @@ const CROWDS: &[Crowd] = &[
         50,
         130,
         4_000,
-        ">130 positions in 2 waves<",
+        2,
         ">drawn: 130 positions, 4000 lines; a box of full width used 1 fuel<",
         "<g class=\"R\" transform=\"translate(200 1176)\"><title>129 call 129 returned fuel 1
 wave 1
@@ -151,7 +152,7 @@ counter 0:7 read turn 1</title><rect width=\"150\" height=\"18\"/><text x=\"5\" 
         63,
         127,
         4_000,
-        ">127 positions in 2 waves<",
+        2,
         ">drawn: 127 positions, 4000 lines, and not all; a box of full width used 1 fuel<",
         "<g class=\"R\" transform=\"translate(200 1488)\"><title>126 call 126 returned fuel 1
 wave 1
@@ -160,26 +161,9 @@ counter 0:7 read turn 1</title><rect width=\"150\" height=\"18\"/><text x=\"5\" 
 </svg>
 ",
     ),
-    // the most boxes
-    (
-        2_000,
-        0,
-        2_000,
-        0,
-        ">2000 positions in 1 waves<",
-        OF_2000,
-        LAST_OF_2000,
-    ),
-    // a position more
-    (
-        2_001,
-        0,
-        2_000,
-        0,
-        ">2001 positions in 1 waves<",
-        OF_2000,
-        LAST_OF_2000,
-    ),
+    // the most boxes, and a position more
+    (2_000, 0, 2_000, 0, 1, OF_2000, LAST_OF_2000),
+    (2_001, 0, 2_000, 0, 1, OF_2000, LAST_OF_2000),
 ];
 
 /// What is drawn of 2,000 positions or more, none of which waits.
@@ -194,30 +178,29 @@ counter 0:7 add turn 0</title><rect width=\"150\" height=\"18\"/><text x=\"5\" y
 </svg>
 ";
 
-/// Whether the picture of a crowd has as many boxes and lines as its row says, tells so, and ends with the last box.
-fn is_bounded(alloc: Global, row: &Crowd) -> bool {
-    let (adders, readers, boxes, lines, count, told, last) = *row;
-    let Some(text) = crowd_drawn(alloc, adders, readers) else {
-        return false;
-    };
+/// Whether the picture of a crowd has as many boxes and lines as its row says, tells so, and ends with the last box. None where memory is refused.
+fn is_bounded(alloc: Global, row: &Crowd) -> Option<bool> {
+    let (adders, readers, boxes, lines, waves, told, last) = *row;
+    let text = crowd_drawn(alloc, adders, readers)?;
+    let positions = adders.saturating_add(readers);
+    let count = format!(in alloc; ">{positions} positions in {waves} waves<").ok()?;
     let text = text.as_str();
-    has(alloc, text, boxes, lines)
-        && text.contains(count)
-        && text.contains(told)
-        && text.ends_with(last)
+    let is_told = text.contains(count.as_str()) && text.contains(told) && text.ends_with(last);
+    Some(is_told && has(alloc, text, boxes, lines))
 }
 
 #[test]
 fn pictures_are_bounded(rt: HostRuntime) {
     for row in CROWDS {
-        holds(&rt, &row.4, is_bounded(rt.alloc(), row));
+        let is_bounded = is_bounded(rt.alloc(), row);
+        equal(&rt, &(row.0, row.1), &is_bounded, &Some(true));
     }
 }
 
 /// Whether the picture of a row's block is whole, where memory is not refused.
 fn is_whole_or_none(alloc: Global, row: &Row) -> bool {
-    let (_, bytes, boxes, lines) = *row;
-    match drawn(alloc, bytes) {
+    let (_, digits, boxes, lines) = *row;
+    match drawn(alloc, digits) {
         None => true,
         Some(text) => {
             let text = text.as_str();

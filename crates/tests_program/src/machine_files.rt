@@ -90,7 +90,7 @@ const NO_FILES: &[(&str, Cause)] = &[
 /// Whether no file of this name is read or written, for this cause.
 fn is_no_file<F: Files>(alloc: Global, files: &mut F, name: &str, cause: Cause) -> bool {
     reads(alloc, files, name, Err(cause))
-        && files.start(name) == Err(WriteFault(cause))
+        && files.start(name) == Err(WriteFault::Failed(cause))
         && files.put_some(name, b"x").is_err()
         && files.keep(name).is_err()
 }
@@ -110,7 +110,7 @@ fn tells_why_a_file_of_the_machine_fails(rt: HostRuntime) {
 /// Devices, which are written as they are, and how a write to each ends.
 const DEVICES: &[(&str, Result<(), WriteFault>)] = &[
     ("/dev/null", Ok(())),
-    ("/dev/full", Err(WriteFault(Cause::NoSpace))),
+    ("/dev/full", Err(WriteFault::Failed(Cause::NoSpace))),
 ];
 
 #[test]

@@ -33,23 +33,25 @@ struct Kept {
     is_claimed: bool,
 }
 
-/// What the disk holds, what was done to it, and after how many calls one fails.
+/// What the disk holds, what was done to it, and after how many calls one fails, and how.
 #[derive(Debug, Drop)]
 pub struct Contents {
     alloc: Global,
     files: Vec<Kept>,
     steps: Vec<Step>,
     left: Option<u64>,
+    error: ErrorKind,
 }
 
 impl Contents {
-    /// No files. The call after so many others fails, if a number is given.
-    pub fn new(alloc: Global, left: Option<u64>) -> Contents {
+    /// No files. The call after so many others fails with this error, if a number is given.
+    pub fn new(alloc: Global, left: Option<u64>, error: ErrorKind) -> Contents {
         Contents {
             alloc,
             files: Vec::new(alloc),
             steps: Vec::new(alloc),
             left,
+            error,
         }
     }
 
@@ -96,7 +98,7 @@ impl Contents {
             None => Ok(()),
             Some(0) => {
                 self.left = None;
-                Err(io::Error::from(ErrorKind::StorageFull))
+                Err(io::Error::from(self.error))
             }
             Some(n) => {
                 self.left = Some(n - 1);

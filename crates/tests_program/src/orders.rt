@@ -10,7 +10,7 @@ use spec_ledger::Kind::{Counter, Map};
 use spec_ledger::Mode::{Add, Excl, Read};
 use spec_ledger::{Kind, Lock, Mode, Outcome, Receipt};
 use std::alloc::Global;
-use wblock_picture::{Edge, edges_of};
+use wblock_picture::edges_of;
 
 /// A lock of contract 0 that a position takes: its kind, its key and its mode.
 pub(crate) type Taken = (Kind, u64, Mode);
@@ -99,38 +99,28 @@ pub(crate) fn crowd<'a>(alloc: Global, adders: usize, readers: usize) -> Option<
     Some(order)
 }
 
-const FIRST: Edge = Edge {
-    before: 0,
-    after: 1,
-};
-
-const SECOND: Edge = Edge {
-    before: 1,
-    after: 2,
-};
-
-const THIRD: Edge = Edge {
-    before: 2,
-    after: 3,
-};
-
 /// How many of the first positions of the chain there are to be edges between, and these edges.
-const BETWEEN: &[(u32, &[Edge])] = &[
+const BETWEEN: &[(u32, &[(u32, u32)])] = &[
     (0, &[]),
     (1, &[]),
-    (2, &[FIRST]),
-    (3, &[FIRST, SECOND]),
-    (4, &[FIRST, SECOND, THIRD]),
-    (9, &[FIRST, SECOND, THIRD]),
+    (2, &[(0, 1)]),
+    (3, &[(0, 1), (1, 2)]),
+    (4, &[(0, 1), (1, 2), (2, 3)]),
+    (9, &[(0, 1), (1, 2), (2, 3)]),
 ];
 
 /// Whether these are all the edges between so many first positions of the chain.
-fn are_between(alloc: Global, positions: u32, wanted: &[Edge]) -> bool {
+fn are_between(alloc: Global, positions: u32, wanted: &[(u32, u32)]) -> bool {
     let edges = graph(alloc, CHAIN).and_then(|graph| edges_of(alloc, &graph, positions).ok());
-    match edges {
-        None => false,
-        Some(edges) => edges.all && edges.list.as_slice() == wanted,
+    let Some(edges) = edges else {
+        return false;
+    };
+    for (edge, between) in edges.list.iter().zip(wanted.iter()) {
+        if edge.before != between.0 || edge.after != between.1 {
+            return false;
+        }
     }
+    edges.all && edges.list.len() == wanted.len()
 }
 
 #[test]

@@ -1,8 +1,10 @@
-//! Tests of threads that share a book, lanes or an intake, and of what a pace is told. There is no code here.
+//! Tests of threads that share a book, a lock, a queue, lanes or an intake, and of what a pace is told. There is no code here.
 #![tactic(auto)]
 
 #[cfg(test)]
 mod assertions;
+#[cfg(test)]
+mod brief_locks;
 #[cfg(test)]
 mod intakes;
 #[cfg(test)]
@@ -11,5 +13,7 @@ mod paces;
 mod shared_books;
 #[cfg(test)]
 mod shared_lanes;
+#[cfg(test)]
+mod shared_queues;
 #[cfg(test)]
 mod waiting;

@@ -292,7 +292,7 @@ fn are_same(alone: &Core, mined: &MinedCore) -> bool {
     let mut both = alone.touched.iter().zip(mined.touched.iter());
     alone.receipts == mined.receipts
         && alone.touched.len() == mined.touched.len()
-        && both.all(|(one, other)| one.held() == other.held())
+        && both.all(|(one, other)| one.lock_modes() == other.lock_modes())
         && alone.cells.entries().eq(mined.cells.entries())
 }
 

@@ -25,7 +25,7 @@ use Rattle.validator.specs.declared.trial.Trial.{Trial}
 use Rattle.validator.specs.declared.verdict.Validated.{Validated}
 use Rattle.validator.specs.Jobs.{IsJob}
 use Rattle.validator.specs.Judged.{IsToldBy, verdict_view}
-use Rattle.validator.specs.Tried.{Holds, IsFirst, IsFit, IsJudged, IsTrial, MayRun}
+use Rattle.validator.specs.Trials.{Holds, IsFirst, IsFit, IsJudged, IsTrial, MayRun}
 
 pub as_many_numbers : (b : Block) (order : List ℕ) → order ≡ order_of b → length b.positions ≡ length order
 as_many_numbers b order is = sym (ap (λ (l : List ℕ). length l) is ∙ length-map b.positions (λ (p : Position). p.call))

@@ -8,7 +8,7 @@ use Rattle.spec_execution.specs.Run.{IsReply}
 use Rattle.spec_execution.proofs.Replies.{is_reply}
 use Rattle.validator.specs.declared.job.Job.{Job}
 use Rattle.validator.specs.declared.job.PositionRun.{PositionRun}
-use Rattle.validator.specs.Handed.{IsMade, AreMade, AreFound}
+use Rattle.validator.specs.PositionRuns.{IsMade, AreMade, AreFound}
 
 -- the reply to an operation, where there is one
 pub reply_of : (op : Op) (cells : Cells) (o : Option Reply) (r : Reply) → IfSome o (λ x. x ≡ reply_to op cells) → o ≡ Some r → IsReply op r

@@ -5,7 +5,7 @@ use Rattle.interp.specs.Callee.{setting_view}
 use Rattle.world.specs.Views.{world_view}
 use Rattle.in_order.specs.Progress.{IsKnown}
 use Rattle.validator.specs.declared.job.Job.{Job}
-use Rattle.validator.specs.Tried.{MayRun}
+use Rattle.validator.specs.Trials.{MayRun}
 
 -- the calls that are run are the block's, whose limits stay within the fuel that it may have (`MayRun`)
 pub record IsJob {A P : Type 0} (job : Job A P) : Type 0 where

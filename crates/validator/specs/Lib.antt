@@ -1,5 +1,5 @@
 pub mod Fuel
-pub mod Handed
+pub mod PositionRuns
 pub mod Jobs
 pub mod Judged
-pub mod Tried
+pub mod Trials

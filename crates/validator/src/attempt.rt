@@ -4,8 +4,8 @@ ghost use Rattle.std.specs.Prelude.{◌≡◌, ◌<◌, ◌≤◌, ◌^◌, Ok, 
 ghost use Rattle.spec_execution.specs.Run.{IsReply};
 ghost use Rattle.interp.specs.Callee.{setting_view};
 ghost use Rattle.interp.specs.Progress.{IsFree, IsSameCall};
-ghost use Rattle.serial.specs.Going.{MayGoOn, IsEnded};
-ghost use Rattle.validator.specs.Handed.{IsMade, IsRunIn};
+ghost use Rattle.serial.specs.MachineProgress.{MayGoOn, IsEnded};
+ghost use Rattle.validator.specs.PositionRuns.{IsMade, IsRunIn};
 ghost use Rattle.validator.specs.Jobs.{IsJob};
 
 use crate::job::{Job, PositionResult, PositionRun};

@@ -51,7 +51,7 @@ fn agrees<A: Allocator>(position: &Position<A>, receipt: Receipt, touched: &Touc
     if !is_receipt(position.receipt(), receipt) {
         return false;
     }
-    are_held(position.profile().entries(), touched.held())
+    are_held(position.profile().entries(), touched.lock_modes())
 }
 
 /// The least position that does not agree with these receipts and locks.

@@ -1,6 +1,6 @@
 //! A block that was read, and what it is judged by.
 
-ghost use Rattle.validator.specs.Tried.{IsJudged, MayRun};
+ghost use Rattle.validator.specs.Trials.{IsJudged, MayRun};
 
 use block::Block;
 use block_judge::{JudgeRefusal, judge_digests, judge_turns};

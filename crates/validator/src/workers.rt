@@ -2,9 +2,9 @@
 
 ghost use Rattle.std.specs.Prelude.{◌≡◌, ◌≤◌, IfOk, IfSome, OnOk, length};
 ghost use Rattle.in_order.specs.Progress.{IsProgressOf};
-ghost use Rattle.validator.specs.Handed.{AreFound, AreMade, ArePartsMade, IsMade, IsRunAt};
+ghost use Rattle.validator.specs.PositionRuns.{AreFound, AreMade, ArePartsMade, IsMade, IsRunAt};
 ghost use Rattle.validator.specs.Jobs.{IsJob};
-ghost use Rattle.validator.specs.Tried.{IsFit};
+ghost use Rattle.validator.specs.Trials.{IsFit};
 
 use crate::attempt::attempt;
 use crate::job::{Job, PositionResult, PositionRun, WorkerRuns};

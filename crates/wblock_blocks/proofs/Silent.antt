@@ -3,7 +3,7 @@ use Rattle.std.proofs.Common.{◌≡◌, Bool, List, ℕ, [], refl, inr}
 use Rattle.wblock_line.specs.declared.answer.Answer.{Answer}
 use Rattle.wblock_line.specs.declared.answer.Answer.TheVariants.{Done, Refused}
 use Rattle.wblock_line.specs.Answers.{upshot_of}
-use Rattle.wblock_line.specs.Told.{IsRefusalIn}
+use Rattle.wblock_line.specs.Forms.{IsRefusalIn}
 use Rattle.wblock_blocks.specs.Notes.{Notes}
 
 pub of_refusal : (json : Bool) (line : List ℕ) (a : Answer) (note : List ℕ) → IsRefusalIn json line a → note ≡ [] → Notes (upshot_of a) note

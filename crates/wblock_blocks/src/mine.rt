@@ -8,7 +8,7 @@ ghost use Rattle.spec_block.specs.Headline.{Headline, IsLeft};
 ghost use Rattle.world.specs.Views.{world_view};
 ghost use Rattle.wblock_line.specs.Answers.{CountsFault, IsOfFile, upshot_of};
 ghost use Rattle.wblock_line.specs.Inputs.{IsNextInput};
-ghost use Rattle.wblock_line.specs.Told.{IsRefusalIn};
+ghost use Rattle.wblock_line.specs.Forms.{IsRefusalIn};
 ghost use Rattle.wblock_line.specs.Transitions.{leaving, note_in, WritesBeside};
 ghost use Rattle.wblock_line.specs.declared.transition.Transition.TheVariants as transition;
 ghost use Rattle.wblock_blocks.specs.Mines.{IsDone, IsMinedText, Mines, MinesOver};

@@ -1,3 +1,4 @@
 pub mod Calling
 pub mod Effects
 pub mod EffectsJson
+pub mod Styles

@@ -6,10 +6,11 @@ ghost use Rattle.wblock_line.specs.Words.{choices};
 ghost use Rattle.wblock_call.specs.Calling.{AsksCall, IsCallOf};
 ghost use Rattle.wblock_call.specs.declared.called.Calling.{Calling as TheCalling};
 
+use crate::style::{Style, is_style_alone, style_in};
 use call::Call;
 use std::alloc::{AllocError, Global};
 use wblock_calls::call_of_words;
-use wblock_line::{JSON_SWITCH, is_word, switch_alone};
+use wblock_line::is_word;
 
 /// What is to be called.
 #[derive(Debug, Drop)]
@@ -18,8 +19,8 @@ pub struct Calling<'w> {
     pub world: &'w str,
     /// The call.
     pub call: Call,
-    /// Whether it is told as JSON.
-    pub json: bool,
+    /// How it is told what it comes to.
+    pub style: Style,
 }
 
 /// The world and the words of the call.
@@ -32,8 +33,8 @@ fn parts_of<'l, 'w>(words: &'l [&'w str]) -> Option<(&'w str, &'l [&'w str])>
     Some((words[1], &words[2..]))
 }
 
-/// What a line of these words and options asks to call: `call WORLD CONTRACT FUEL ENTRY ARG... [--json]`, behind WORLD the words of a line of calls. None
-/// where it asks for no such thing.
+/// What a line of these words and options asks to call: `call WORLD CONTRACT FUEL ENTRY ARG... [--json] [--signed]`, behind WORLD the words of a line of
+/// calls. None where it asks for no such thing.
 pub fn calling_of<'w>(
     alloc: Global,
     words: &[&'w str],
@@ -41,14 +42,18 @@ pub fn calling_of<'w>(
 ) -> Result<Option<Calling<'w>>, AllocError>
     ensures { IfOk result (λ found. MatchOption found ((c : TheCalling) → ¬ AsksCall (record { words = texts words.now; options = choices options.now }) c) (AsksCall (record { words = texts words.now; options = choices options.now }))) }
 {
-    let Some(json) = switch_alone(options, JSON_SWITCH) else {
+    let Some(style) = style_in(alloc, options)? else {
         return Ok(None);
     };
+    let alone = is_style_alone(alloc, options)?;
+    if !alone {
+        return Ok(None);
+    }
     let Some((world, spelling)) = parts_of(words) else {
         return Ok(None);
     };
     let Some(call) = call_of_words(alloc, spelling)? else {
         return Ok(None);
     };
-    Ok(Some(Calling { world, call, json }))
+    Ok(Some(Calling { world, call, style }))
 }

@@ -1,4 +1,4 @@
-//! The command `call WORLD CONTRACT FUEL ENTRY ARG... [--json]`: what one call comes to that runs alone over a world. Nothing is written.
+//! The command `call WORLD CONTRACT FUEL ENTRY ARG... [--json] [--signed]`: what one call comes to that runs alone over a world. Nothing is written.
 
 ghost use Rattle.std.specs.Prelude.{◌≡◌, IsTrue, IfOk, IfErr, OnOk, string_bytes};
 ghost use Rattle.world.specs.Views.{world_view};
@@ -8,6 +8,7 @@ ghost use Rattle.wblock_call.specs.Calling.{Calls, TellsEffects, TellsExecution}
 use crate::called::Calling;
 use crate::effects::effects_text_of;
 use crate::effects_json::effects_line_of;
+use crate::style::Style;
 use call::Call;
 use serial::{Executed, execute};
 use spec_execution::an_execution_has_a_read_write_set;
@@ -19,20 +20,20 @@ use wblock_line::{Answer, Fault, WorldFile, read_world_file, refuse};
 use world::World;
 use wtypes::NoMemory;
 
-/// What a call that was executed came to, in lines or as JSON.
+/// What a call that was executed came to, in this style.
 fn effects_told(
     alloc: Global,
-    json: bool,
+    style: Style,
     executed: &Executed,
     before: &Cells,
     later: &Cells,
 ) -> Result<String, AllocError>
-    ensures { IfOk result (λ text. TellsEffects json (record { receipt = executed.now.receipt; touched = executed.now.touched }) before.now.cells later.now.cells (string_bytes text)) }
+    ensures { IfOk result (λ text. TellsEffects style.json style.signed (record { receipt = executed.now.receipt; touched = executed.now.touched }) before.now.cells later.now.cells (string_bytes text)) }
 {
-    if json {
-        effects_line_of(alloc, executed, before, later)
+    if style.json {
+        effects_line_of(alloc, style.signed, executed, before, later)
     } else {
-        effects_text_of(alloc, executed, before, later)
+        effects_text_of(alloc, style.signed, executed, before, later)
     }
 }
 
@@ -43,23 +44,23 @@ fn effects_told(
 /// Memory was refused.
 pub fn call_over<'a>(
     alloc: Global,
-    json: bool,
+    style: Style,
     world: &World,
     call: &Call,
 ) -> Result<Answer<'a>, NoMemory>
-    ensures { IfOk result (λ a. TellsExecution json (world_view world.now) call.now (upshot_of a)) }
+    ensures { IfOk result (λ a. TellsExecution style (world_view world.now) call.now (upshot_of a)) }
 {
     an_execution_has_a_read_write_set();
     let before = world.cells();
     before.use_invariant();
     let mut later = before.copy(alloc)?;
     let executed = execute(alloc, world.contracts(), call, &mut later, Version::Two)?;
-    let text = effects_told(alloc, json, &executed, before, &later)?;
+    let text = effects_told(alloc, style, &executed, before, &later)?;
     Ok(Answer::Done(Vec::new(alloc), text))
 }
 
 /// What `call` comes to: the receipt of the call alone over the cells of the world, the locks that it asks for, and the cells that it would change; or why
-/// the world is refused. It is told in lines or as JSON. No file is written.
+/// the world is refused. It is told in the style of the task. No file is written.
 pub fn call_world<'a, F: Files>(
     alloc: Global,
     files: &mut F,
@@ -73,9 +74,9 @@ pub fn call_world<'a, F: Files>(
 {
     let world = match read_world_file(alloc, files, task.world)? {
         WorldFile::Read(world) => world,
-        WorldFile::Refused(line, why) => return refuse(alloc, task.json, line, why),
+        WorldFile::Refused(line, why) => return refuse(alloc, task.style.json, line, why),
     };
-    match call_over(alloc, task.json, &world, &task.call) {
+    match call_over(alloc, task.style, &world, &task.call) {
         Ok(answer) => Ok(answer),
         Err(NoMemory) => Err(Fault::NoMemory),
     }

@@ -4,7 +4,7 @@ ghost use Rattle.std.specs.Prelude.{IfOk, string_bytes};
 ghost use Rattle.wblock_calls.specs.Refusals.{TellsLine};
 
 use crate::reader::{CallsRefusal, MOST_CALLS};
-use crate::sentence::{place_line, shown};
+use crate::sentence::{place_line, printable};
 use crate::words::{is_plain, number_of, values_of};
 use call::Call;
 use std::alloc::{AllocError, Global};
@@ -152,7 +152,7 @@ pub fn call_words(alloc: Global, words: &[&str]) -> Result<Option<String>, Alloc
         if let Some(fault) = fault_of(alloc, number, *word)? {
             let bad = named(0, *word, fault);
             let cause = bad.fault.text();
-            let word = shown(bad.word);
+            let word = printable(bad.word);
             let said = format!(in alloc; "`{word}`: {cause}")?;
             return Ok(Some(said));
         }
@@ -185,7 +185,7 @@ fn line_fault(alloc: Global, line: &[u8]) -> Result<String, AllocError> {
         ) {
             return format!(in alloc; ", column {column}: {cause}");
         }
-        let word = shown(bad.word);
+        let word = printable(bad.word);
         return format!(in alloc; ", column {column}, `{word}`: {cause}");
     }
     let column = line.len().saturating_add(1);

@@ -16,5 +16,5 @@ pub use number::NumberText;
 pub use reader::{CallsRefusal, MOST_CALLS, read_calls};
 pub use receipt::{PositionLine, ReceiptText, ValueText};
 pub use refusal::refusal_line;
-pub use sentence::{place_line, shown};
+pub use sentence::{place_line, printable};
 pub use words::number_of;

@@ -6,7 +6,7 @@ ghost use Rattle.wblock_calls.specs.Sentences.{Begins};
 use std::alloc::{AllocError, Global};
 
 /// A word as it is shown: dots stand for one that is longer than 60 bytes or has control characters.
-pub fn shown(word: &str) -> &str
+pub fn printable(word: &str) -> &str
     ensures word { (result.now ≡ word.now) ⊎ (result.now ≡ codes "..") }
     ensures short { length result.now ≤ 60 }
 {

@@ -1,14 +1,15 @@
 -- What is said on standard error of a refusal, and of what failed.
-use Rattle.std.proofs.Common.{◌≡◌, ℕ, List, [], ◌∷◌, ◌++◌, refl, inl, inr, subst, ◌∙◌, string_bytes, Bool, IsTrue}
+use Rattle.std.proofs.Common.{◌≡◌, ◌≢◌, ◌⊎◌, ℕ, List, [], ◌∷◌, ◌++◌, refl, inl, inr, sym, subst, ◌∙◌, string_bytes, Bool, IsTrue}
 use Rattle.wblock_io.specs.Holding.{Holding, Failing, IsFailed}
 use Rattle.wblock_line.specs.declared.answer.Answer.{Answer}
 use Rattle.wblock_line.specs.declared.answer.Answer.TheVariants.{Done, Refused}
 use Rattle.wblock_line.specs.declared.answer.Fault.{Fault}
 use Rattle.wblock_line.specs.declared.answer.Fault.TheVariants.{File, NoMemory}
+use Rattle.wblock_line.specs.declared.perform.Status.{Status}
 use Rattle.wblock_line.specs.declared.perform.Status.TheVariants as status
 use Rattle.wblock_line.specs.Answers.{status_of, status_of_fault, writes_of, why_line, Wrote, WroteSome, CountsFault, IsFailing, IsOfFile, IsSaid, SaysFile, SaysFault}
 use Rattle.wblock_commands.specs.declared.command.Command.{Command}
-use Rattle.wblock_commands.specs.Does.{Answers, SaysText, Reads, Fails}
+use Rattle.wblock_commands.specs.Does.{Answers, SaysText, Reads, Fails, IsKept}
 
 pub says_why : (a : Answer) (old new : List ℕ) (failed fails : ℕ) → status_of a ≡ status.Refused → IsSaid (why_line a) old new failed fails → SaysText old new failed fails
 says_why (Done writes text) old new failed fails e said = absurd cc
@@ -50,3 +51,17 @@ cuts c name a files output old mid new failed now fails before after lost loses 
     told = o.told;
   });
 })
+
+-- no answer that is carried out has the status of usage
+pub never_usage : (s : Status) (a : Answer) → (s ≢ status.File → s ≢ status.Memory → s ≡ status_of a) → s ≡ status.Usage → ⊥
+never_usage s a is e = no_usage a (sym (is (λ f. absurd cc) (λ m. absurd cc)) ∙ e)
+  where
+    no_usage : (a : Answer) → status_of a ≡ status.Usage → ⊥
+    no_usage (Done writes text) e = absurd cc
+    no_usage (Refused line why) e = absurd cc
+
+-- where memory is refused to an answer that is carried out, nothing is written or printed
+pub keeps : (s : Status) (a : Answer) (old mid new : Holding) (before after : List ℕ) → (s ≢ status.File → s ≢ status.Memory → s ≡ status_of a) → (s ≡ status.Memory → new ≡ mid) → mid ≡ old → (s ≡ status.Memory → after ≡ before)
+    → (s ≡ status.Usage) ⊎ (s ≡ status.Memory) → IsKept old new before after
+keeps s a old mid new before after is unwritten kept unprinted (inl usage) = absurd (never_usage s a is usage)
+keeps s a old mid new before after is unwritten kept unprinted (inr memory) = record { files = unwritten memory ∙ kept; text = unprinted memory }

@@ -60,9 +60,9 @@ pub enum Command<'l, 'w> {
     Mine(Mining<'w>),
     /// `validate WORLD CALLS BLOCK --fuel N [--workers 4] [--next NEXT] [--json]`: the verdict on the block, and the world after it.
     Validate(Validation<'w>),
-    /// `call WORLD CONTRACT FUEL ENTRY ARG... [--json]`: what one call comes to that runs alone.
+    /// `call WORLD CONTRACT FUEL ENTRY ARG... [--json] [--signed]`: what one call comes to that runs alone.
     Call(Calling<'w>),
-    /// `debug WORLD CALLS CALL CMD... [--block BLOCK [--fuel N]]`: a call that runs alone, or in a block, turn by turn.
+    /// `debug WORLD CALLS CALL CMD... [--block BLOCK [--fuel N]] [--json] [--signed]`: a call that runs alone, or in a block, turn by turn.
     Debug(Debugging<'w>),
     /// `show FILE [--calls CALLS] [--json] [--signed]`: what is in a module, a world or a block; or `show FILE --svg PICTURE`: a picture of a block.
     Show(Showing<'w>),

@@ -84,10 +84,13 @@ fn carry_out_noted<F: Files, O: Sink, E: Sink>(
     out: &mut O,
     err: &mut E,
 ) -> Status
-    ensures status { result ≢ Status.File → result ≡ status_of noted.entry.answer }
-    ensures wrote { result ≢ Status.File → IsTrue F.tells → Wrote (writes_of noted.entry.answer) (F.holds files.old) (F.holds files.new) }
-    ensures printed { result ≢ Status.File → IsTrue O.tells → O.told out.new ≡ O.told out.old ++ text_of noted.entry.answer }
+    ensures status { result ≢ Status.File → result ≢ Status.Memory → result ≡ status_of noted.entry.answer }
+    ensures wrote { result ≢ Status.File → result ≢ Status.Memory → IsTrue F.tells → Wrote (writes_of noted.entry.answer) (F.holds files.old) (F.holds files.new) }
+    ensures printed { result ≢ Status.File → result ≢ Status.Memory → IsTrue O.tells → O.told out.new ≡ O.told out.old ++ text_of noted.entry.answer }
     ensures failing { result ≡ Status.File → (name : List ℕ) × IsFailing name noted.entry.answer F.tells O.tells (F.holds files.old) (F.holds files.new) (F.failures files.old) (F.failures files.new) (O.told out.old) (O.told out.new) (O.failures out.old) (O.failures out.new) × (IsTrue E.tells → SaysFile name (E.told err.old) (E.told err.new) (E.failures err.old) (E.failures err.new)) }
+    ensures unwritten { result ≡ Status.Memory → IsTrue F.tells → F.holds files.new ≡ F.holds files.old }
+    ensures unprinted { result ≡ Status.Memory → out.new ≡ out.old }
+    ensures memory_said { result ≡ Status.Memory → IsTrue E.tells → IsSaid memory_line (E.told err.old) (E.told err.new) (E.failures err.old) (E.failures err.new) }
     ensures calm_files { result ≢ Status.File → F.failures files.new ≡ F.failures files.old }
     ensures calm_output { result ≢ Status.File → O.failures out.new ≡ O.failures out.old }
     ensures quiet { result ≡ Status.Done → string_bytes noted.entry.note ≡ [] → err.new ≡ err.old }

@@ -1,4 +1,3 @@
 mod AtIndex
 mod Lines
-mod Named
 mod Places

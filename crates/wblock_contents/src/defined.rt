@@ -1,7 +1,7 @@
 //! What a module defines.
 
-ghost use Rattle.std.specs.Prelude.{◌≡◌, ◌+◌, ◌<◌, ◌≤◌, ℕ, List, IfOk, Some, length, map, option_map, string_bytes};
-ghost use Rattle.wblock_words.specs.Names.{IsFrom, Named, Rises, name_among, names_in};
+ghost use Rattle.std.specs.Prelude.{◌≡◌, ◌+◌, ◌<◌, List, IfOk, Some, length, map, option_map, string_bytes};
+ghost use Rattle.wblock_words.specs.Names.{Named, Rises, name_among, names_in};
 ghost use Rattle.std.specs.List.{flat_map};
 ghost use Rattle.spec_typing.specs.Modules.{imported_globals};
 ghost use Rattle.module_tree.specs.ModuleView.{limits_view, func_view, global_view};
@@ -16,7 +16,7 @@ use body_typing::spaces::Spaces;
 use figures::first_func;
 use module_tree::module::{Func, Global as Variable, Module};
 use std::alloc::{AllocError, Global};
-use wblock_words::FunctionName;
+use wblock_words::{FunctionName, first_name, names_from};
 use wtypes::Limits;
 
 /// ` locals L instructions N`.
@@ -39,41 +39,6 @@ fn called_text_of(alloc: Global, name: Option<&str>) -> Result<String, AllocErro
             Ok(text)
         }
     }
-}
-
-/// The name of the function of this number, which is the first of these where there is one.
-fn first_name<'b>(names: &[FunctionName<'b>], number: u32) -> Option<&'b str>
-    requires rises { Rises (names_in names.now) }
-    requires from { IsFrom number (names_in names.now) }
-    ensures { option_map (λ n. n.now) result ≡ name_among (names_in names.now) number }
-{
-    match names.split_first() {
-        Some((first, _rest)) => {
-            if first.number == number {
-                Some(first.name)
-            } else {
-                None
-            }
-        }
-        None => None,
-    }
-}
-
-/// The names of the functions from this one on.
-fn names_from<'n, 'b>(names: &'n [FunctionName<'b>], number: u32) -> &'n [FunctionName<'b>]
-    requires { Rises (names_in names.now) }
-    ensures rises { Rises (names_in result.now) }
-    ensures from { IsFrom number (names_in result.now) }
-    ensures same { (later : ℕ) → number ≤ later → name_among (names_in result.now) later ≡ name_among (names_in names.entry.now) later }
-{
-    let mut rest = names;
-    while let [first, more @ ..] = rest {
-        if first.number >= number {
-            return rest;
-        }
-        rest = more;
-    }
-    rest
 }
 
 /// The line of the function of this number and this name.

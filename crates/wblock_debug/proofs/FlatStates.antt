@@ -1,5 +1,5 @@
 -- What commands tell has no float, and few arrays and objects within one another.
-use Rattle.std.proofs.Common.{ℕ, true, Option, Some, None, List, [], ◌∷◌, codes, map, arith}
+use Rattle.std.proofs.Common.{ℕ, Bool, true, Option, Some, None, List, [], ◌∷◌, codes, map, arith}
 use Rattle.std.specs.FinMap.{entries}
 use Rattle.serde_json.specs.Data.{Data, boolean}
 use Rattle.wtypes.specs.declared.Value.{Value}
@@ -47,12 +47,12 @@ values_flat name values =
     let members : List (List ℕ × Data) = (name, array_of (map value_data values)) ∷ [] in
     object_flat 2 127 members (omega arith) (array_flat 1 2 _ (omega arith) (map_flat 1 value_data values value_flat), tt)
 
-pub cells_flat : (s : SessionView) → IsFlat 127 (cells_data s)
+pub cells_flat : (signed : Bool) (s : SessionView) → IsFlat 127 (cells_data signed s)
 unfolding cells_data
-cells_flat s =
-    let items : List Data = change_items s.cells (cells_at s) (entries (touched s.trace)) in
+cells_flat signed s =
+    let items : List Data = change_items signed s.cells (cells_at s) (entries (touched s.trace)) in
     let members : List (List ℕ × Data) = (codes "cells", array_of items) ∷ [] in
-    object_flat 2 127 members (omega arith) (array_flat 1 2 _ (omega arith) (changes_flat s.cells (cells_at s) (entries (touched s.trace))), tt)
+    object_flat 2 127 members (omega arith) (array_flat 1 2 _ (omega arith) (changes_flat signed s.cells (cells_at s) (entries (touched s.trace))), tt)
 
 frame_flat : (f : OpenFrame) → IsFlat 1 (frame_data f)
 unfolding frame_data

@@ -1,29 +1,28 @@
 -- A line asks for what its words ask for, in the block and with the fuel that its options name.
-use Rattle.std.proofs.Common.{◌≡◌, ℕ, Bool, List, [], ◌∷◌, codes, filter, length, slice_index_or, Bor, Option, Some, None, Result, Ok, Err, IfOk, IfSome, MatchOption, subst, sym, inr, ⊎_elim, arith}
-use Rattle.wblock_line.specs.Words.{AsksAlone, Line, Choice}
+use Rattle.std.proofs.Common.{◌≡◌, ℕ, List, [], ◌∷◌, filter, length, slice_index_or, Bor, Option, Some, None, Result, Ok, Err, IfOk, IfSome, MatchOption, subst, sym, inr, ⊎_elim, arith}
+use Rattle.wblock_line.specs.Words.{Line, Choice}
 use Rattle.wblock_line.specs.Words.{choices}
 use Rattle.wblock_usage.specs.Words.{choice}
-use Rattle.wblock_debug.specs.Asks.{AreBlockWithFuel, AreBlockWithFuelInAnyOrder, AsksBlock, AsksDebug, AsksWords, is_json, is_other}
+use Rattle.wblock_call.specs.Styles.{AsksStyle, is_other}
+use Rattle.wblock_call.specs.declared.style.Style.{Style}
+use Rattle.wblock_debug.specs.Asks.{AreBlockWithFuel, AreBlockWithFuelInAnyOrder, AsksBlock, AsksDebug, AsksWords}
 use Rattle.wblock_debug.specs.declared.asked.Debugging.{Debugging}
 
 pub no_block : (line : Line) → ((block : Option (Bor (List ℕ))) (fuel : Option ℕ) → ¬ AsksBlock (filter is_other line.options) block fuel) → (d : Debugging) → ¬ AsksDebug line d
 no_block line none d a = none d.block d.fuel a.block
 
-pub no_json : (line : Line) → ((json : Bool) → ¬ AsksAlone (codes "--json") (filter is_json line.options) json) → (d : Debugging) → ¬ AsksDebug line d
-no_json line none d a = none d.json a.json
-
-pub by_words : {E : Type 0} (r : Result (Option Debugging) E) (words : List (List ℕ)) (line : Line) (block : Option (Bor (List ℕ))) (fuel : Option ℕ) (json : Bool) → line.words ≡ words → AsksBlock (filter is_other line.options) block fuel
-    → AsksAlone (codes "--json") (filter is_json line.options) json
+pub by_words : {E : Type 0} (r : Result (Option Debugging) E) (words : List (List ℕ)) (line : Line) (block : Option (Bor (List ℕ))) (fuel : Option ℕ) (style : Style) → line.words ≡ words → AsksBlock (filter is_other line.options) block fuel
+    → AsksStyle line.options style
     → IfOk r (λ found. MatchOption found ((d : Debugging) → ¬ AsksWords words d) (AsksWords words)) → IfOk r (λ found. IfSome found (λ d. d.block ≡ block)) → IfOk r (λ found. IfSome found (λ d. d.fuel ≡ fuel))
-    → IfOk r (λ found. IfSome found (λ d. d.json ≡ json)) → IfOk r (λ found. MatchOption found ((d : Debugging) → ¬ AsksDebug line d) (AsksDebug line))
-by_words (Ok None) words line block fuel json is asks alone h b f j = λ d a. h d (subst (λ (ws : List (List ℕ)). AsksWords ws d) is a.words)
-by_words (Ok (Some d)) words line block fuel json is asks alone h b f j =
+    → IfOk r (λ found. IfSome found (λ d. d.style ≡ style)) → IfOk r (λ found. MatchOption found ((d : Debugging) → ¬ AsksDebug line d) (AsksDebug line))
+by_words (Ok None) words line block fuel style is asks told h b f s = λ d a. h d (subst (λ (ws : List (List ℕ)). AsksWords ws d) is a.words)
+by_words (Ok (Some d)) words line block fuel style is asks told h b f s =
     record {
       words = subst (λ (ws : List (List ℕ)). AsksWords ws d) (sym is) h;
-      json = subst (λ (given : Bool). AsksAlone (codes "--json") (filter is_json line.options) given) (sym j) alone;
+      style = subst (λ (asked : Style). AsksStyle line.options asked) (sym s) told;
       block = subst (λ (o : Option (Bor (List ℕ))). AsksBlock (filter is_other line.options) o d.fuel) (sym b) (subst (λ (n : Option ℕ). AsksBlock (filter is_other line.options) block n) (sym f) asks);
     }
-by_words (Err e) words line block fuel json is asks alone h b f j = h
+by_words (Err e) words line block fuel style is asks told h b f s = h
 
 -- two options of which neither order names a block and a fuel, or of which the second order does
 pub in_either_order : {E : Type 0} (first second : Choice) (r : Result (Option (Bor (List ℕ) × ℕ)) E) → ((name : List ℕ) (n : ℕ) → ¬ AreBlockWithFuel first second name n)

@@ -1,26 +1,22 @@
 -- Commands that are given one after another.
-use Rattle.std.proofs.Common.{◌≡◌, ℕ, ◌+◌, ◌<◌, Bool, true, List, [], ◌∷◌, ◌++◌, length, take, get_or, sym, ap, ◌∙◌, subst, string_bytes}
-use Rattle.std.proofs.lemmas.List.{take_more}
+use Rattle.std.proofs.Common.{◌≡◌, ℕ, Bool, true, List, [], ◌∷◌, ◌++◌, sym, subst, string_bytes}
 use Rattle.debugger.specs.SessionView.{SessionView, IsSessionView}
 use Rattle.debugger.specs.declared.session.Refusal.{Refusal}
 use Rattle.wblock_usage.specs.declared.debugging.Command.{Command}
+use Rattle.wblock_call.specs.declared.style.Style.{Style}
 use Rattle.wblock_debug.specs.declared.printed.Printed.{Printed}
 use Rattle.wblock_debug.specs.Tells.{TellsRefusal}
 use Rattle.wblock_debug.specs.Prints.{Does, Refuses, IsPrinted, done, refused, AddsCommand}
 
-pub adds_line : {A : Type 0} (json : Bool) (c : Command) (s t : SessionView) (old new : Printed A) (line : List ℕ) → Does json c s t line → IsSessionView t → new.refused ≡ old.refused → string_bytes new.text ≡ string_bytes old.text ++ line → AddsCommand json c s t old new
-adds_line json c s t old new line does sight same pushed = λ first given h.
-    subst (λ (text : List ℕ). IsPrinted json first (given ++ c ∷ []) t new.refused text) (sym pushed)
-    (subst (λ (b : Bool). IsPrinted json first (given ++ c ∷ []) t b (string_bytes old.text ++ line)) (sym same)
+pub adds_line : {A : Type 0} (style : Style) (c : Command) (s t : SessionView) (old new : Printed A) (line : List ℕ) → Does style c s t line → IsSessionView t → new.refused ≡ old.refused → string_bytes new.text ≡ string_bytes old.text ++ line → AddsCommand style c s t old new
+adds_line style c s t old new line does sight same pushed = λ first given h.
+    subst (λ (text : List ℕ). IsPrinted style first (given ++ c ∷ []) t new.refused text) (sym pushed)
+    (subst (λ (b : Bool). IsPrinted style first (given ++ c ∷ []) t b (string_bytes old.text ++ line)) (sym same)
     (done given s old.refused (string_bytes old.text) c t line h does sight))
 
-pub adds_refusal : {A : Type 0} (json : Bool) (c : Command) (s t : SessionView) (old new : Printed A) (r : Refusal) (line : List ℕ) → Refuses c s r → t ≡ s → TellsRefusal json r line → new.refused ≡ true → string_bytes new.text ≡ string_bytes old.text ++ line → AddsCommand json c s t old new
-adds_refusal json c s t old new r line why stays is told pushed = λ first given h.
-    subst (λ (u : SessionView). IsPrinted json first (given ++ c ∷ []) u new.refused (string_bytes new.text)) (sym stays)
-    (subst (λ (text : List ℕ). IsPrinted json first (given ++ c ∷ []) s new.refused text) (sym pushed)
-    (subst (λ (b : Bool). IsPrinted json first (given ++ c ∷ []) s b (string_bytes old.text ++ line)) (sym told)
+pub adds_refusal : {A : Type 0} (style : Style) (c : Command) (s t : SessionView) (old new : Printed A) (r : Refusal) (line : List ℕ) → Refuses c s r → t ≡ s → TellsRefusal style.json r line → new.refused ≡ true → string_bytes new.text ≡ string_bytes old.text ++ line → AddsCommand style c s t old new
+adds_refusal style c s t old new r line why stays is told pushed = λ first given h.
+    subst (λ (u : SessionView). IsPrinted style first (given ++ c ∷ []) u new.refused (string_bytes new.text)) (sym stays)
+    (subst (λ (text : List ℕ). IsPrinted style first (given ++ c ∷ []) s new.refused text) (sym pushed)
+    (subst (λ (b : Bool). IsPrinted style first (given ++ c ∷ []) s b (string_bytes old.text ++ line)) (sym told)
     (refused given s old.refused (string_bytes old.text) c r line h why is)))
-
-pub one_more : (json : Bool) (first : SessionView) (commands : List Command) (i : ℕ) (d c : Command) (s : SessionView) (b : Bool) (text : List ℕ) → i < length commands → c ≡ get_or commands i d → IsPrinted json first (take i commands ++ c ∷ []) s b text → IsPrinted json first (take (i + 1) commands) s b text
-one_more json first commands i d c s b text lt is h =
-    subst (λ (cs : List Command). IsPrinted json first cs s b text) (ap (λ x. take i commands ++ x ∷ []) is ∙ sym (take_more commands i d lt)) h

@@ -1,9 +1,9 @@
 -- What the words of a line ask to debug.
-use Rattle.std.specs.Prelude.{◌≡◌, ◌⊎◌, ℕ, ◌<◌, ◌^◌, Bool, not, List, [], ◌∷◌, Option, Some, None, codes, decimal, filter, length}
+use Rattle.std.specs.Prelude.{◌≡◌, ◌⊎◌, ℕ, ◌<◌, ◌^◌, List, [], ◌∷◌, Option, Some, None, codes, decimal, filter, length}
 use Rattle.std.specs.Borrow.{Bor}
-use Rattle.std.specs.Str.{bytes_eq}
-use Rattle.wblock_line.specs.Words.{AsksAlone, Line, Choice}
+use Rattle.wblock_line.specs.Words.{Line, Choice}
 use Rattle.wblock_usage.specs.Words.{Spell}
+use Rattle.wblock_call.specs.Styles.{AsksStyle, is_other}
 use Rattle.wblock_debug.specs.declared.asked.Debugging.{Debugging}
 
 -- the words are `debug`, these three and the words of commands, at least one
@@ -35,15 +35,8 @@ AsksBlock (only ∷ []) (Some block) None = only ≡ (codes "--block", block.now
 AsksBlock (first ∷ second ∷ []) (Some block) (Some fuel) = AreBlockWithFuelInAnyOrder first second block.now fuel
 AsksBlock _ _ _ = ⊥
 
--- the option asks for JSON; it has another name
-abbrev pub is_json : Choice → Bool
-is_json option = bytes_eq option.0 (codes "--json")
-
-abbrev pub is_other : Choice → Bool
-is_other option = not (is_json option)
-
--- `debug WORLD CALLS CALL CMD... [--block BLOCK [--fuel N]] [--json]`
+-- `debug WORLD CALLS CALL CMD... [--block BLOCK [--fuel N]] [--json] [--signed]`
 pub record AsksDebug (line : Line) (d : Debugging) : Type 0 where
   pub words : AsksWords line.words d
-  pub json : AsksAlone (codes "--json") (filter is_json line.options) d.json
+  pub style : AsksStyle line.options d.style
   pub block : AsksBlock (filter is_other line.options) d.block d.fuel

@@ -16,7 +16,7 @@ use Rattle.wblock_line.specs.declared.perform.Status.TheVariants as status
 use Rattle.wblock_line.specs.Answers.{writes_of, text_of, status_of}
 use Rattle.wblock_line.specs.Inputs.{HoldsWorld, HoldsCalls, IsNextInput, TellsRefusal}
 use Rattle.wblock_line.specs.Rejections.{Rejects}
-use Rattle.wblock_line.specs.Told.{IsRefusalIn}
+use Rattle.wblock_line.specs.Forms.{IsRefusalIn}
 use Rattle.wblock_debug.specs.declared.asked.Debugging.{Debugging}
 
 -- the text is printed and no file is written
@@ -29,7 +29,7 @@ pub record IsText (refused : Bool) (text : List ℕ) (a : Answer) : Type 0 where
 pub record TellsCall (version : Version) (world : World) (cells : Cells) (call : Call) (task : Debugging) (a : Answer) : Type 0 where
   pub refused : Bool
   pub text : List ℕ
-  pub debugged : IsDebugged task.json (setting_of version world) cells call task.commands.items refused text
+  pub debugged : IsDebugged task.style (setting_of version world) cells call task.commands.items refused text
   pub told : IsText refused text a
 
 -- the answer tells that the block has no call of this number
@@ -40,12 +40,12 @@ TellsAbsent json number a = IsRefusalIn json (left_line number) a
 pub record IsRejected (world : World) (calls : List Call) (task : Debugging) (bytes : List ℕ) (a : Answer) : Type 0 where
   pub verdict : Verdict
   pub is : IsVerdictWith world calls task.fuel bytes verdict
-  pub tells : Rejects task.json verdict a
+  pub tells : Rejects task.style.json verdict a
 
 -- the call does not stand in the block
 pub record IsLeftOut (world : World) (calls : List Call) (task : Debugging) (bytes : List ℕ) (a : Answer) : Type 0 where
   pub absent : IsAbsent world calls task.fuel bytes task.call
-  pub tells : TellsAbsent task.json task.call a
+  pub tells : TellsAbsent task.style.json task.call a
 
 -- the call runs over the cells that it meets in the block, by the rules of the block's version
 pub record IsMet (world : World) (calls : List Call) (call : Call) (task : Debugging) (bytes : List ℕ) (a : Answer) : Type 0 where
@@ -83,7 +83,7 @@ pub record IsOfCall (holds : Holding) (task : Debugging) (a : Answer) : Type 0 w
 pub record IsRefused (holds : Holding) (task : Debugging) (a : Answer) : Type 0 where
   pub line : List ℕ
   pub why : TellsRefusal holds task.world.now task.calls.now line
-  pub told : IsRefusalIn task.json line a
+  pub told : IsRefusalIn task.style.json line a
 
 abbrev pub Debugs : Holding → Debugging → Answer → Type 0
 Debugs holds task a = IsRefused holds task a ⊎ IsOfCall holds task a

@@ -1,5 +1,5 @@
 -- The lines that commands print, each ended by a newline.
-use Rattle.std.specs.Prelude.{◌≡◌, ℕ, zero, suc, List, [], ◌∷◌, ◌++◌, Option, Some, None, codes, decimal}
+use Rattle.std.specs.Prelude.{◌≡◌, ℕ, zero, suc, Bool, false, List, [], ◌∷◌, ◌++◌, Option, Some, None, codes, decimal}
 use Rattle.hex.specs.Hex.{encode_lower}
 use Rattle.wtypes.specs.declared.Value.{Value}
 use Rattle.std.specs.FinMap.{entries, get}
@@ -12,7 +12,7 @@ use Rattle.debugger.specs.declared.session.Refusal.{Refusal}
 use Rattle.debugger.specs.Commands.{code_of}
 use Rattle.wblock_calls.specs.Texts.{value_text}
 use Rattle.wblock_calls.specs.Receipts.{receipt_text}
-use Rattle.wblock_call.specs.Effects.{change_lines, number_text}
+use Rattle.wblock_call.specs.Effects.{change_lines, maybe_number}
 
 -- ` in C level L`, where a level is inside the outer one
 abbrev pub level_text : (contract level : ℕ) → List ℕ
@@ -44,7 +44,7 @@ bytes_line bytes = codes "bytes " ++ encode_lower bytes ++ 10 ∷ []
 
 -- `at F O in C level L`, or `-` in the place of O at the end of the body
 abbrev pub frame_line : OpenFrame → List ℕ
-frame_line f = codes "at " ++ decimal f.func ++ codes " " ++ number_text f.ordinal ++ codes " in " ++ decimal f.contract ++ codes " level " ++ decimal f.level ++ 10 ∷ []
+frame_line f = codes "at " ++ decimal f.func ++ codes " " ++ maybe_number false f.ordinal ++ codes " in " ++ decimal f.contract ++ codes " level " ++ decimal f.level ++ 10 ∷ []
 
 abbrev pub frame_lines : List OpenFrame → List ℕ
 frame_lines [] = []
@@ -54,9 +54,9 @@ frame_lines (f ∷ fs) = frame_line f ++ frame_lines fs
 abbrev pub where_text : SessionView → List ℕ
 where_text s = codes "where\n" ++ frame_lines (frames_at s)
 
--- `cells`, and a line for each cell that stands otherwise than at the start, in the order of locks
-abbrev pub cells_text : SessionView → List ℕ
-cells_text s = codes "cells\n" ++ change_lines s.cells (cells_at s) (entries (touched s.trace))
+-- `cells`, and a line for each cell that stands otherwise than at the start, in the order of locks, keys and numbers signed or not
+abbrev pub cells_text : (signed : Bool) → SessionView → List ℕ
+cells_text signed s = codes "cells\n" ++ change_lines signed s.cells (cells_at s) (entries (touched s.trace))
 
 -- a cell at a lock that the call has not asked for is as at the start
 abbrev pub OthersAreAsBefore : SessionView → Type 0

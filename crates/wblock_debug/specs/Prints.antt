@@ -14,6 +14,7 @@ use Rattle.wblock_usage.specs.declared.spot.Spot.{Spot}
 use Rattle.wblock_usage.specs.declared.spot.Spot.TheVariants.{Own, Of, Exported}
 use Rattle.wblock_usage.specs.declared.debugging.Command.{Command}
 use Rattle.wblock_usage.specs.declared.debugging.Command.TheVariants.{Step, Back, Cont, Place as PlaceAsked, Break, Clear, Stack, Locals, Globals, Bytes, Cells as CellsShown, Where}
+use Rattle.wblock_call.specs.declared.style.Style.{Style}
 use Rattle.wblock_debug.specs.Lines.{OthersAreAsBefore}
 use Rattle.wblock_debug.specs.Tells.{TellsBytes, TellsCells, TellsOk, TellsRefusal, TellsStart, TellsState, TellsValues, TellsWhere}
 use Rattle.wblock_debug.specs.declared.perform.Said.{Said}
@@ -39,19 +40,19 @@ without_break_at breaks None = breaks
 without_break_at breaks (Some p) = without_break breaks p
 
 -- A command that is done leads from one state to another, and tells what is read of the state that it comes to.
-abbrev pub Does : (json : Bool) → Command → SessionView → SessionView → List ℕ → Type 0
-Does json (Step n) s t line = ((made : ℕ) × HasStepped s n made t) × TellsState json t line
-Does json (Back n) s t line = HasGoneBack s n t × TellsState json t line
-Does json Cont s t line = ((made : ℕ) × HasContinued s made t) × TellsState json t line
-Does json PlaceAsked s t line = (t ≡ s) × TellsState json t line
-Does json (Break spot) s t line = IsSome (instr_named s spot) × (t ≡ record s { breaks = with_break_at s.breaks (place_named s spot) }) × TellsOk json line
-Does json (Clear spot) s t line = IsSome (instr_named s spot) × (t ≡ record s { breaks = without_break_at s.breaks (place_named s spot) }) × TellsOk json line
-Does json Stack s t line = (t ≡ s) × TellsValues json (codes "stack") (stack_at t) line
-Does json Locals s t line = (t ≡ s) × TellsValues json (codes "locals") (locals_at t) line
-Does json Globals s t line = (t ≡ s) × TellsValues json (codes "globals") (globals_at t) line
-Does json CellsShown s t line = (t ≡ s) × TellsCells json t line × OthersAreAsBefore t
-Does json Where s t line = (t ≡ s) × TellsWhere json t line
-Does json (Bytes from n) s t line = (t ≡ s) × (from + n ≤ length (memory_at t)) × TellsBytes json (take n (drop from (memory_at t))) line
+abbrev pub Does : (style : Style) → Command → SessionView → SessionView → List ℕ → Type 0
+Does style (Step n) s t line = ((made : ℕ) × HasStepped s n made t) × TellsState style.json t line
+Does style (Back n) s t line = HasGoneBack s n t × TellsState style.json t line
+Does style Cont s t line = ((made : ℕ) × HasContinued s made t) × TellsState style.json t line
+Does style PlaceAsked s t line = (t ≡ s) × TellsState style.json t line
+Does style (Break spot) s t line = IsSome (instr_named s spot) × (t ≡ record s { breaks = with_break_at s.breaks (place_named s spot) }) × TellsOk style.json line
+Does style (Clear spot) s t line = IsSome (instr_named s spot) × (t ≡ record s { breaks = without_break_at s.breaks (place_named s spot) }) × TellsOk style.json line
+Does style Stack s t line = (t ≡ s) × TellsValues style.json (codes "stack") (stack_at t) line
+Does style Locals s t line = (t ≡ s) × TellsValues style.json (codes "locals") (locals_at t) line
+Does style Globals s t line = (t ≡ s) × TellsValues style.json (codes "globals") (globals_at t) line
+Does style CellsShown s t line = (t ≡ s) × TellsCells style.json style.signed t line × OthersAreAsBefore t
+Does style Where s t line = (t ≡ s) × TellsWhere style.json t line
+Does style (Bytes from n) s t line = (t ≡ s) × (from + n ≤ length (memory_at t)) × TellsBytes style.json (take n (drop from (memory_at t))) line
 
 -- a command that is refused, and why
 abbrev pub Refuses : Command → SessionView → Refusal → Type 0
@@ -63,19 +64,19 @@ Refuses c s r = ⊥
 
 -- From a first state on, these commands were given one after another: they have come to this state and printed this text. A command that is refused
 -- leaves the state as it is and tells its number.
-pub data IsPrinted (json : Bool) (first : SessionView) : List Command → SessionView → (refused : Bool) → (text : List ℕ) → Type 0 where
-  nothing : IsPrinted json first [] first false []
-  done : (cs : List Command) (s : SessionView) (refused : Bool) (text : List ℕ) (c : Command) (t : SessionView) (line : List ℕ) → IsPrinted json first cs s refused text → Does json c s t line → IsSessionView t → IsPrinted json first (cs ++ c ∷ []) t refused (text ++ line)
-  refused : (cs : List Command) (s : SessionView) (refused : Bool) (text : List ℕ) (c : Command) (r : Refusal) (line : List ℕ) → IsPrinted json first cs s refused text → Refuses c s r → TellsRefusal json r line → IsPrinted json first (cs ++ c ∷ []) s true (text ++ line)
+pub data IsPrinted (style : Style) (first : SessionView) : List Command → SessionView → (refused : Bool) → (text : List ℕ) → Type 0 where
+  nothing : IsPrinted style first [] first false []
+  done : (cs : List Command) (s : SessionView) (refused : Bool) (text : List ℕ) (c : Command) (t : SessionView) (line : List ℕ) → IsPrinted style first cs s refused text → Does style c s t line → IsSessionView t → IsPrinted style first (cs ++ c ∷ []) t refused (text ++ line)
+  refused : (cs : List Command) (s : SessionView) (refused : Bool) (text : List ℕ) (c : Command) (r : Refusal) (line : List ℕ) → IsPrinted style first cs s refused text → Refuses c s r → TellsRefusal style.json r line → IsPrinted style first (cs ++ c ∷ []) s true (text ++ line)
 
 -- what one command does and says
-abbrev pub Performs : {A : Type 0} → (json : Bool) → Command → SessionView → SessionView → Said A → Type 0
-Performs json c s t (said.Line line) = Does json c s t (string_bytes line)
-Performs json c s t (said.Refused r) = Refuses c s r × (t ≡ s)
+abbrev pub Performs : {A : Type 0} → (style : Style) → Command → SessionView → SessionView → Said A → Type 0
+Performs style c s t (said.Line line) = Does style c s t (string_bytes line)
+Performs style c s t (said.Refused r) = Refuses c s r × (t ≡ s)
 
 -- one more command was given
-abbrev pub AddsCommand : {A : Type 0} → (json : Bool) → Command → SessionView → SessionView → Printed A → Printed A → Type 0
-AddsCommand json c s t old new = (first : SessionView) (given : List Command) → IsPrinted json first given s old.refused (string_bytes old.text) → IsPrinted json first (given ++ c ∷ []) t new.refused (string_bytes new.text)
+abbrev pub AddsCommand : {A : Type 0} → (style : Style) → Command → SessionView → SessionView → Printed A → Printed A → Type 0
+AddsCommand style c s t old new = (first : SessionView) (given : List Command) → IsPrinted style first given s old.refused (string_bytes old.text) → IsPrinted style first (given ++ c ∷ []) t new.refused (string_bytes new.text)
 
 -- the call does not start, for the cause of a number
 pub record IsNotStarted (json : Bool) (setting : Setting) (call : ContractCall) (refused : Bool) (text : List ℕ) : Type 0 where
@@ -85,12 +86,12 @@ pub record IsNotStarted (json : Bool) (setting : Setting) (call : ContractCall) 
   pub told : TellsStart json code text
 
 -- the commands are given to the call alone over the cells, from its first state on
-pub record IsShown (json : Bool) (setting : Setting) (cells : Cells) (call : ContractCall) (commands : List Command) (refused : Bool) (text : List ℕ) : Type 0 where
+pub record IsShown (style : Style) (setting : Setting) (cells : Cells) (call : ContractCall) (commands : List Command) (refused : Bool) (text : List ℕ) : Type 0 where
   pub first : SessionView
   pub opened : IsOpened setting call cells first
   pub is_first : IsSessionView first
   pub last : SessionView
-  pub printed : IsPrinted json first commands last refused text
+  pub printed : IsPrinted style first commands last refused text
 
-abbrev pub IsDebugged : (json : Bool) → Setting → Cells → ContractCall → List Command → Bool → List ℕ → Type 0
-IsDebugged json setting cells call commands any_refused text = IsNotStarted json setting call any_refused text ⊎ IsShown json setting cells call commands any_refused text
+abbrev pub IsDebugged : (style : Style) → Setting → Cells → ContractCall → List Command → Bool → List ℕ → Type 0
+IsDebugged style setting cells call commands any_refused text = IsNotStarted style.json setting call any_refused text ⊎ IsShown style setting cells call commands any_refused text

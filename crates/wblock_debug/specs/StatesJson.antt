@@ -1,5 +1,5 @@
 -- What commands tell of a call as JSON, an object for each command.
-use Rattle.std.specs.Prelude.{ℕ, true, Option, Some, None, List, [], ◌∷◌, codes, map}
+use Rattle.std.specs.Prelude.{ℕ, Bool, true, Option, Some, None, List, [], ◌∷◌, codes, map}
 use Rattle.std.specs.FinMap.{entries}
 use Rattle.serde_json.specs.Data.{Data, boolean, null}
 use Rattle.wtypes.specs.declared.Value.{Value}
@@ -48,9 +48,9 @@ state_data s =
 unfoldable pub values_data : (name : List ℕ) → List Value → Data
 values_data name values = object_of ((name, array_of (map value_data values)) ∷ [])
 
--- the cells that stand otherwise than at the start, in the order of locks
-unfoldable pub cells_data : SessionView → Data
-cells_data s = object_of ((codes "cells", array_of (change_items s.cells (cells_at s) (entries (touched s.trace)))) ∷ [])
+-- the cells that stand otherwise than at the start, in the order of locks, keys and numbers signed or not
+unfoldable pub cells_data : (signed : Bool) → SessionView → Data
+cells_data signed s = object_of ((codes "cells", array_of (change_items signed s.cells (cells_at s) (entries (touched s.trace)))) ∷ [])
 
 -- a frame that is open, null for the instruction at the end of the body
 unfoldable pub frame_data : OpenFrame → Data

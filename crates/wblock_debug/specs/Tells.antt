@@ -17,9 +17,9 @@ abbrev pub TellsValues : (json : Bool) → (name : List ℕ) → List Value → 
 TellsValues false name values line = line ≡ values_line name values
 TellsValues true name values line = IsLineOf (IsJson (values_data name values)) line
 
-abbrev pub TellsCells : (json : Bool) → SessionView → List ℕ → Type 0
-TellsCells false s text = text ≡ cells_text s
-TellsCells true s text = IsLineOf (IsJson (cells_data s)) text
+abbrev pub TellsCells : (json signed : Bool) → SessionView → List ℕ → Type 0
+TellsCells false signed s text = text ≡ cells_text signed s
+TellsCells true signed s text = IsLineOf (IsJson (cells_data signed s)) text
 
 abbrev pub TellsWhere : (json : Bool) → SessionView → List ℕ → Type 0
 TellsWhere false s text = text ≡ where_text s

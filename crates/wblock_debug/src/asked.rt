@@ -1,17 +1,18 @@
 //! What the words of a line ask to debug.
 
-ghost use Rattle.std.specs.Prelude.{◌≡◌, ℕ, List, Option, IfOk, IfSome, MatchOption, filter};
+ghost use Rattle.std.specs.Prelude.{◌≡◌, ℕ, List, Option, IfOk, IfSome, MatchOption};
 ghost use Rattle.std.specs.Borrow.{Bor};
 ghost use Rattle.wblock_line.specs.Words.{line_of};
 ghost use Rattle.wblock_calls.specs.Words.{texts};
 ghost use Rattle.wblock_line.specs.Words.{choices};
 ghost use Rattle.wblock_usage.specs.Words.{choice};
-ghost use Rattle.wblock_debug.specs.Asks.{AreBlockWithFuel, AreBlockWithFuelInAnyOrder, AsksBlock, AsksDebug, AsksWords, IsSplit, is_json, is_other};
+ghost use Rattle.wblock_debug.specs.Asks.{AreBlockWithFuel, AreBlockWithFuelInAnyOrder, AsksBlock, AsksDebug, AsksWords, IsSplit};
 ghost use Rattle.wblock_debug.specs.declared.asked.Debugging.{Debugging as TheDebugging};
 
 use std::alloc::{AllocError, Global};
+use wblock_call::{Style, others_of, style_in};
 use wblock_calls::number_of;
-use wblock_line::{JSON_SWITCH, Line, is_word, switch_alone};
+use wblock_line::{Line, is_word};
 use wblock_usage::debugging::{Command, commands_of};
 
 /// What is to be debugged.
@@ -29,8 +30,8 @@ pub struct Debugging<'w> {
     pub block: Option<&'w str>,
     /// The fuel with which the block is judged, where one is given; else it is the least that the calls of the block need.
     pub fuel: Option<u64>,
-    /// Whether it is told as JSON.
-    pub json: bool,
+    /// How it is told what is read of the states.
+    pub style: Style,
 }
 
 /// The world, the calls, the word of the call and the words of the commands.
@@ -98,18 +99,18 @@ fn block_of<'w>(
     }
 }
 
-/// What words ask for, in this block if any, judged with this fuel if any, and told as JSON or not.
+/// What words ask for, in this block if any, judged with this fuel if any, and told in this style.
 fn asked_by<'w>(
     alloc: Global,
     words: &[&'w str],
     block: Option<&'w str>,
     fuel: Option<u64>,
-    json: bool,
+    style: Style,
 ) -> Result<Option<Debugging<'w>>, AllocError>
     ensures words { IfOk result (λ found. MatchOption found ((d : TheDebugging) → ¬ AsksWords (texts words.now) d) (AsksWords (texts words.now))) }
     ensures block { IfOk result (λ found. IfSome found (λ d. d.block ≡ block.entry)) }
     ensures fuel { IfOk result (λ found. IfSome found (λ d. d.fuel ≡ fuel)) }
-    ensures json { IfOk result (λ found. IfSome found (λ d. d.json ≡ json)) }
+    ensures style { IfOk result (λ found. IfSome found (λ d. d.style ≡ style)) }
 {
     let Some((world, calls, call, commands)) = parts_of(words) else {
         return Ok(None);
@@ -127,56 +128,23 @@ fn asked_by<'w>(
         commands,
         block,
         fuel,
-        json,
+        style,
     }))
 }
 
-/// The options that ask for JSON.
-fn switches_of<'w>(
-    alloc: Global,
-    options: &[(&'w str, &'w str)],
-) -> Result<Vec<(&'w str, &'w str)>, AllocError>
-    ensures { IfOk result (λ found. choices found.items ≡ filter is_json (choices options.now)) }
-{
-    let mut found = Vec::new(alloc);
-    for option in options {
-        if option.0 == JSON_SWITCH {
-            found.push(*option)?;
-        }
-    }
-    Ok(found)
-}
-
-/// The options that do not ask for JSON.
-fn others_of<'w>(
-    alloc: Global,
-    options: &[(&'w str, &'w str)],
-) -> Result<Vec<(&'w str, &'w str)>, AllocError>
-    ensures { IfOk result (λ found. choices found.items ≡ filter is_other (choices options.now)) }
-{
-    let mut found = Vec::new(alloc);
-    for option in options {
-        if option.0 != JSON_SWITCH {
-            found.push(*option)?;
-        }
-    }
-    Ok(found)
-}
-
-/// What a line asks to debug: `debug WORLD CALLS CALL CMD... [--block BLOCK [--fuel N]] [--json]`, with at least one command, the call a number of 64 bits
-/// from 0, in decimal with no needless zero. None where the line asks for no such thing.
+/// What a line asks to debug: `debug WORLD CALLS CALL CMD... [--block BLOCK [--fuel N]] [--json] [--signed]`, with at least one command, the call a number
+/// of 64 bits from 0, in decimal with no needless zero. None where the line asks for no such thing.
 pub fn debugging_of<'w>(alloc: Global, line: &Line<'w>) -> Result<Option<Debugging<'w>>, AllocError>
     ensures { IfOk result (λ found. MatchOption found ((d : TheDebugging) → ¬ AsksDebug (line_of line.now) d) (AsksDebug (line_of line.now))) }
 {
     let words = line.words.as_slice();
     let options = line.options.as_slice();
-    let switches = switches_of(alloc, options)?;
-    let Some(json) = switch_alone(switches.as_slice(), JSON_SWITCH) else {
+    let Some(style) = style_in(alloc, options)? else {
         return Ok(None);
     };
     let others = others_of(alloc, options)?;
     let Some((block, fuel)) = block_of(alloc, others.as_slice())? else {
         return Ok(None);
     };
-    asked_by(alloc, words, block, fuel, json)
+    asked_by(alloc, words, block, fuel, style)
 }

@@ -1,4 +1,4 @@
-//! The command `debug WORLD CALLS CALL CMD... [--block BLOCK [--fuel N]] [--json]`: a call that runs alone over a world, or over the cells that it meets in a block, turn by
+//! The command `debug WORLD CALLS CALL CMD... [--block BLOCK [--fuel N]] [--json] [--signed]`: a call that runs alone over a world, or over the cells that it meets in a block, turn by
 //! turn, and what is read of its states.
 
 ghost use Rattle.std.specs.Prelude.{◌≡◌, ◌≤◌, ◌<◌, ◌^◌, IsTrue, IfOk, IfErr, OnOk, MatchOption, Some, length, slice_get, string_bytes};
@@ -48,7 +48,7 @@ fn debug_over<'a>(
         call,
         &task.commands,
         version,
-        task.json,
+        task.style,
     )?;
     Ok(answer_of(alloc, printed))
 }
@@ -99,8 +99,8 @@ fn debug_in_block<'a, P: Pace>(
         pace,
     ) {
         Ok(Some(met)) => Ok(debug_over(alloc, world, &met.cells, call, task, met.version)?),
-        Ok(None) => Ok(absent(alloc, task.json, task.call)?),
-        Err(JudgeRefusal::Rejected(reason)) => Ok(reject(alloc, task.json, bytes, reason)?),
+        Ok(None) => Ok(absent(alloc, task.style.json, task.call)?),
+        Err(JudgeRefusal::Rejected(reason)) => Ok(reject(alloc, task.style.json, bytes, reason)?),
         Err(JudgeRefusal::NoMemory) => Err(NoMemory),
     }
 }
@@ -159,7 +159,7 @@ pub fn debug_world<'a, F: Files, P: Pace>(
     let (world, calls) = match read_inputs(alloc, files, task.world, task.calls)? {
         Inputs::Read(world, calls) => (world, calls),
         Inputs::Refused(line, why) => {
-            let refused = refuse(alloc, task.json, line, why)?;
+            let refused = refuse(alloc, task.style.json, line, why)?;
             return Ok(Some(refused));
         }
     };

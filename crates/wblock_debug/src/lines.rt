@@ -8,7 +8,7 @@ use debugger::session::Session;
 use spec_ledger::Receipt;
 use std::alloc::{AllocError, Allocator};
 use std::fmt;
-use wblock_call::NumberText;
+use wblock_call::MaybeNumber;
 use wblock_calls::{ReceiptText, ValueText};
 use wtypes::{NoMemory, Value};
 
@@ -106,7 +106,10 @@ fn frame_line_of<A: Allocator + Copy>(alloc: A, frame: OpenFrame) -> Result<Stri
         func,
         ordinal,
     } = frame;
-    let ordinal = NumberText(widened(ordinal));
+    let ordinal = MaybeNumber {
+        number: widened(ordinal),
+        signed: false,
+    };
     let line = format!(in alloc; "at {func} {ordinal} in {contract} level {level}\n")?;
     Ok(line)
 }

@@ -7,6 +7,7 @@ use crate::told::{bytes_told, cells_told, ok_told, state_told, values_told, wher
 use debugger::Place;
 use debugger::session::{Refusal, Session};
 use std::alloc::{Allocator, Global};
+use wblock_call::Style;
 use wblock_usage::Spot;
 use wblock_usage::debugging::Command;
 use wtypes::NoMemory;
@@ -23,14 +24,14 @@ pub(crate) enum Said<A: Allocator> {
 /// Makes so many turns.
 fn step(
     alloc: Global,
-    json: bool,
+    style: Style,
     session: &mut Session<'_, Global>,
     count: u64,
 ) -> Result<Said<Global>, NoMemory>
-    ensures { IfOk result (Performs json (Command.Step count) session.old session.new) }
+    ensures { IfOk result (Performs style (Command.Step count) session.old session.new) }
 {
     match session.step(count) {
-        Ok(_) => Ok(Said::Line(state_told(alloc, json, session)?)),
+        Ok(_) => Ok(Said::Line(state_told(alloc, style.json, session)?)),
         Err(_) => Err(NoMemory),
     }
 }
@@ -38,14 +39,14 @@ fn step(
 /// Goes so many turns back.
 fn back(
     alloc: Global,
-    json: bool,
+    style: Style,
     session: &mut Session<'_, Global>,
     count: u64,
 ) -> Result<Said<Global>, NoMemory>
-    ensures { IfOk result (Performs json (Command.Back count) session.old session.new) }
+    ensures { IfOk result (Performs style (Command.Back count) session.old session.new) }
 {
     match session.back(count) {
-        Ok(_) => Ok(Said::Line(state_told(alloc, json, session)?)),
+        Ok(_) => Ok(Said::Line(state_told(alloc, style.json, session)?)),
         Err(Refusal::BeforeStart) => Ok(Said::Refused(Refusal::BeforeStart)),
         Err(_) => Err(NoMemory),
     }
@@ -54,13 +55,13 @@ fn back(
 /// Goes on to a break or to the end.
 fn cont(
     alloc: Global,
-    json: bool,
+    style: Style,
     session: &mut Session<'_, Global>,
 ) -> Result<Said<Global>, NoMemory>
-    ensures { IfOk result (Performs json Command.Cont session.old session.new) }
+    ensures { IfOk result (Performs style Command.Cont session.old session.new) }
 {
     match session.cont() {
-        Ok(_) => Ok(Said::Line(state_told(alloc, json, session)?)),
+        Ok(_) => Ok(Said::Line(state_told(alloc, style.json, session)?)),
         Err(_) => Err(NoMemory),
     }
 }
@@ -95,17 +96,17 @@ fn place_named<A: Allocator + Copy>(session: &Session<'_, A>, spot: Spot<'_>) ->
 /// Sets a break.
 fn break_at(
     alloc: Global,
-    json: bool,
+    style: Style,
     session: &mut Session<'_, Global>,
     spot: Spot<'_>,
 ) -> Result<Said<Global>, NoMemory>
-    ensures { IfOk result (Performs json (Command.Break spot.entry) session.old session.new) }
+    ensures { IfOk result (Performs style (Command.Break spot.entry) session.old session.new) }
 {
     let Some(place) = place_named(session, spot) else {
         return Ok(Said::Refused(Refusal::NoSuchPlace));
     };
     match session.break_at(place) {
-        Ok(()) => Ok(Said::Line(ok_told(alloc, json)?)),
+        Ok(()) => Ok(Said::Line(ok_told(alloc, style.json)?)),
         Err(Refusal::NoSuchPlace) => Ok(Said::Refused(Refusal::NoSuchPlace)),
         Err(_) => Err(NoMemory),
     }
@@ -114,17 +115,17 @@ fn break_at(
 /// Clears a break.
 fn clear(
     alloc: Global,
-    json: bool,
+    style: Style,
     session: &mut Session<'_, Global>,
     spot: Spot<'_>,
 ) -> Result<Said<Global>, NoMemory>
-    ensures { IfOk result (Performs json (Command.Clear spot.entry) session.old session.new) }
+    ensures { IfOk result (Performs style (Command.Clear spot.entry) session.old session.new) }
 {
     let Some(place) = place_named(session, spot) else {
         return Ok(Said::Refused(Refusal::NoSuchPlace));
     };
     match session.clear(place) {
-        Ok(()) => Ok(Said::Line(ok_told(alloc, json)?)),
+        Ok(()) => Ok(Said::Line(ok_told(alloc, style.json)?)),
         Err(_) => Ok(Said::Refused(Refusal::NoSuchPlace)),
     }
 }
@@ -132,15 +133,15 @@ fn clear(
 /// Shows bytes of memory.
 fn bytes(
     alloc: Global,
-    json: bool,
+    style: Style,
     session: &Session<'_, Global>,
     from: u64,
     count: u64,
 ) -> Result<Said<Global>, NoMemory>
-    ensures { IfOk result (Performs json (Command.Bytes from count) session.now session.now) }
+    ensures { IfOk result (Performs style (Command.Bytes from count) session.now session.now) }
 {
     match session.bytes(from, count) {
-        Ok(bytes) => Ok(Said::Line(bytes_told(alloc, json, bytes.as_slice())?)),
+        Ok(bytes) => Ok(Said::Line(bytes_told(alloc, style.json, bytes.as_slice())?)),
         Err(Refusal::OutOfRange) => Ok(Said::Refused(Refusal::OutOfRange)),
         Err(_) => Err(NoMemory),
     }
@@ -149,24 +150,34 @@ fn bytes(
 /// Does a command.
 pub(crate) fn perform(
     alloc: Global,
-    json: bool,
+    style: Style,
     session: &mut Session<'_, Global>,
     command: Command<'_>,
 ) -> Result<Said<Global>, NoMemory>
-    ensures { IfOk result (Performs json command.entry session.old session.new) }
+    ensures { IfOk result (Performs style command.entry session.old session.new) }
 {
     match command {
-        Command::Step(count) => step(alloc, json, session, count),
-        Command::Back(count) => back(alloc, json, session, count),
-        Command::Cont => cont(alloc, json, session),
-        Command::Place => Ok(Said::Line(state_told(alloc, json, session)?)),
-        Command::Break(spot) => break_at(alloc, json, session, spot),
-        Command::Clear(spot) => clear(alloc, json, session, spot),
-        Command::Stack => Ok(Said::Line(values_told(alloc, json, "stack", session.stack())?)),
-        Command::Locals => Ok(Said::Line(values_told(alloc, json, "locals", session.locals())?)),
-        Command::Globals => Ok(Said::Line(values_told(alloc, json, "globals", session.globals())?)),
-        Command::Cells => Ok(Said::Line(cells_told(alloc, json, session)?)),
-        Command::Where => Ok(Said::Line(where_told(alloc, json, session)?)),
-        Command::Bytes(from, count) => bytes(alloc, json, session, from, count),
+        Command::Step(count) => step(alloc, style, session, count),
+        Command::Back(count) => back(alloc, style, session, count),
+        Command::Cont => cont(alloc, style, session),
+        Command::Place => Ok(Said::Line(state_told(alloc, style.json, session)?)),
+        Command::Break(spot) => break_at(alloc, style, session, spot),
+        Command::Clear(spot) => clear(alloc, style, session, spot),
+        Command::Stack => Ok(Said::Line(values_told(alloc, style.json, "stack", session.stack())?)),
+        Command::Locals => Ok(Said::Line(values_told(
+            alloc,
+            style.json,
+            "locals",
+            session.locals(),
+        )?)),
+        Command::Globals => Ok(Said::Line(values_told(
+            alloc,
+            style.json,
+            "globals",
+            session.globals(),
+        )?)),
+        Command::Cells => Ok(Said::Line(cells_told(alloc, style, session)?)),
+        Command::Where => Ok(Said::Line(where_told(alloc, style.json, session)?)),
+        Command::Bytes(from, count) => bytes(alloc, style, session, from, count),
     }
 }

@@ -17,6 +17,7 @@ use interp::start::StartRefusal;
 use spec_ledger::Version;
 use std::alloc::{AllocError, Global};
 use storage::Cells;
+use wblock_call::Style;
 use wblock_usage::Spot;
 use wblock_usage::debugging::Command;
 use wblock_words::entry_words;
@@ -66,15 +67,15 @@ fn explain(why: &mut String, reason: &str) -> Result<(), AllocError> {
 /// Does the command of this number, from 1, and appends what it prints.
 fn append(
     alloc: Global,
-    json: bool,
+    style: Style,
     session: &mut Session<'_, Global>,
     number: usize,
     command: Command<'_>,
     printed: &mut Printed,
 ) -> Result<(), NoMemory>
-    ensures { OnOk result (AddsCommand json command.entry session.old session.new printed.old printed.new) }
+    ensures { OnOk result (AddsCommand style command.entry session.old session.new printed.old printed.new) }
 {
-    match perform(alloc, json, session, command)? {
+    match perform(alloc, style, session, command)? {
         Said::Line(line) => {
             session.is_sight();
             printed.text.push_str(line.as_str())?;
@@ -82,7 +83,7 @@ fn append(
         }
         Said::Refused(refusal) => {
             let reason = reason_of(alloc, number, command, refusal)?;
-            let line = refusal_told(alloc, json, refusal, reason.as_str())?;
+            let line = refusal_told(alloc, style.json, refusal, reason.as_str())?;
             explain(&mut printed.why, reason.as_str())?;
             printed.text.push_str(line.as_str())?;
             printed.refused = true;
@@ -94,11 +95,11 @@ fn append(
 /// Does the commands, one after another. One that is refused does not end them.
 fn perform_all(
     alloc: Global,
-    json: bool,
+    style: Style,
     session: &mut Session<'_, Global>,
     commands: &[Command<'_>],
 ) -> Result<Printed, NoMemory>
-    ensures { IfOk result (λ p. IsPrinted json session.old commands.now session.new p.refused (string_bytes p.text)) }
+    ensures { IfOk result (λ p. IsPrinted style session.old commands.now session.new p.refused (string_bytes p.text)) }
 {
     let mut printed = Printed {
         text: String::new(alloc),
@@ -108,7 +109,7 @@ fn perform_all(
     let mut number: usize = 0;
     for command in commands {
         number = number.saturating_add(1);
-        append(alloc, json, session, number, *command, &mut printed)?;
+        append(alloc, style, session, number, *command, &mut printed)?;
     }
     Ok(printed)
 }
@@ -155,7 +156,7 @@ fn refuse_start(
 /// What the commands print of the call alone over the cells, by the rules of this version: the line or the lines of each, one after another. It is `K at F O` (at level 1 and above `K at F O in C level L`) or `K done RECEIPT` for a
 /// command that moves or asks for the place, `ok` for one that sets or clears a break, a name and the values, the bytes, the cells or the frames for one that shows
 /// them, and `refused N` for one that is refused. The line is `refused start N` where the call does not start. As JSON there is a line with an object
-/// for each command.
+/// for each command. Keys and numbers of cells are signed or not.
 ///
 /// # Errors
 ///
@@ -167,15 +168,15 @@ pub fn debug_call(
     call: &Call,
     commands: &[Command<'_>],
     version: Version,
-    json: bool,
+    style: Style,
 ) -> Result<Printed, NoMemory>
-    ensures { IfOk result (λ p. IsDebugged json (setting_view version contracts.now) cells.now.cells call.now commands.now p.refused (string_bytes p.text)) }
+    ensures { IfOk result (λ p. IsDebugged style (setting_view version contracts.now) cells.now.cells call.now commands.now p.refused (string_bytes p.text)) }
 {
     match Session::open(alloc, contracts, cells, call, version) {
         Ok(mut session) => {
             session.is_sight();
-            perform_all(alloc, json, &mut session, commands)
+            perform_all(alloc, style, &mut session, commands)
         }
-        Err(refusal) => refuse_start(alloc, json, contracts, call, refusal),
+        Err(refusal) => refuse_start(alloc, style.json, contracts, call, refusal),
     }
 }

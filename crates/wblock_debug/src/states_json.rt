@@ -123,25 +123,32 @@ pub(crate) fn values_json_of(
 }
 
 #[tactic(auto, unfolding(crate::specs::StatesJson::cells_data))]
-fn cells_of(alloc: Global, session: &Session<'_, Global>) -> Result<Json, NoMemory>
-    ensures data { IfOk result (λ v. view v ≡ cells_data session.now) }
+fn cells_of(alloc: Global, signed: bool, session: &Session<'_, Global>) -> Result<Json, NoMemory>
+    ensures data { IfOk result (λ v. view v ≡ cells_data signed session.now) }
     ensures others { OnOk result (OthersAreAsBefore session.now) }
 {
     let touched = touched_by(alloc, session.trace())?;
-    let changes = changes_of(alloc, touched.held(), session.start(), session.cells())?;
+    let changes = changes_of(
+        alloc,
+        signed,
+        touched.lock_modes(),
+        session.start(),
+        session.cells(),
+    )?;
     let cells = json!(in alloc; {"cells": changes})?;
     Ok(cells)
 }
 
-/// The line of the cells that stand otherwise than at the start of the session.
+/// The line of the cells that stand otherwise than at the start of the session, keys and numbers signed or not.
 pub(crate) fn cells_json_of(
     alloc: Global,
+    signed: bool,
     session: &Session<'_, Global>,
 ) -> Result<String, NoMemory>
-    ensures text { IfOk result (λ text. IsLineOf (IsJson (cells_data session.now)) (string_bytes text)) }
+    ensures text { IfOk result (λ text. IsLineOf (IsJson (cells_data signed session.now)) (string_bytes text)) }
     ensures others { OnOk result (OthersAreAsBefore session.now) }
 {
-    let value = cells_of(alloc, session)?;
+    let value = cells_of(alloc, signed, session)?;
     let text = value_line(alloc, &value)?;
     Ok(text)
 }

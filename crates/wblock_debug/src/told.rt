@@ -11,6 +11,7 @@ use crate::states_json::{
 };
 use debugger::session::{Refusal, Session};
 use std::alloc::{AllocError, Global};
+use wblock_call::Style;
 use wblock_json::json_refusal;
 use wtypes::{NoMemory, Value};
 
@@ -48,16 +49,16 @@ pub(crate) fn values_told(
 /// The cells that stand otherwise than at the start of a session.
 pub(crate) fn cells_told(
     alloc: Global,
-    json: bool,
+    style: Style,
     session: &Session<'_, Global>,
 ) -> Result<String, NoMemory>
-    ensures text { IfOk result (λ text. TellsCells json session.now (string_bytes text)) }
+    ensures text { IfOk result (λ text. TellsCells style.json style.signed session.now (string_bytes text)) }
     ensures others { OnOk result (OthersAreAsBefore session.now) }
 {
-    if json {
-        cells_json_of(alloc, session)
+    if style.json {
+        cells_json_of(alloc, style.signed, session)
     } else {
-        cells_text_of(alloc, session)
+        cells_text_of(alloc, style.signed, session)
     }
 }
 

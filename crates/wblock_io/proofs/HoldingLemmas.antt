@@ -1,18 +1,14 @@
 -- A draft that grows piece by piece and is kept.
-use Rattle.std.proofs.Common.{◌≡◌, ℕ, List, ◌++◌, ◌+◌, ◌≤◌, take, drop, length, Option, Some, ap, sym, subst, ◌∙◌, Result, Ok, Err, OnOk}
+use Rattle.std.proofs.Common.{◌≡◌, ℕ, List, [], ◌∷◌, ◌++◌, ◌+◌, ◌≤◌, take, drop, length, ap, sym, ◌∙◌}
 use Rattle.std.proofs.lemmas.List.{take_all}
 use Rattle.byte_sinks.proofs.SinkLemmas.{take-add}
-use Rattle.wblock_io.specs.Holding.{Holding, Draft, Changes, IsKept}
+use Rattle.wblock_io.specs.Holding.{Draft}
 
 -- a beginning, and then the next `n` bytes
-pub grown : (name bytes : List ℕ) (i n : ℕ) (now new : Option Draft) → now ≡ Some (name, take i bytes)
-    → ((front : List ℕ) → now ≡ Some (name, front) → new ≡ Some (name, front ++ take n (drop i bytes))) → new ≡ Some (name, take (i + n) bytes)
-grown name bytes i n now new before step = step (take i bytes) before ∙ ap (λ (b : List ℕ). Some (name, b)) (sym (take-add bytes i n))
+pub grown : (others : List Draft) (name bytes : List ℕ) (i n : ℕ) (now new : List Draft) → now ≡ others ++ (name, take i bytes) ∷ []
+    → ((ds : List Draft) (front : List ℕ) → now ≡ ds ++ (name, front) ∷ [] → new ≡ ds ++ (name, front ++ take n (drop i bytes)) ∷ []) → new ≡ others ++ (name, take (i + n) bytes) ∷ []
+grown others name bytes i n now new before step = step others (take i bytes) before ∙ ap (λ (b : List ℕ). others ++ (name, b) ∷ []) (sym (take-add bytes i n))
 
--- a draft of all bytes is kept
-pub kept_whole : (old now new : Holding) (draft : Option Draft) (name bytes : List ℕ) (i : ℕ) → length bytes ≤ i → now ≡ old → draft ≡ Some (name, take i bytes) → IsKept draft now new name → Changes old new name bytes
-kept_whole old now new draft name bytes i all same drafted kept = subst (λ (h : Holding). Changes h new name bytes) same (kept bytes (drafted ∙ ap (λ (b : List ℕ). Some (name, b)) (take_all i bytes all)))
-
-pub on_more : {T E : Type 0} (r : Result T E) (P Q : Type 0) → (P → Q) → OnOk r P → OnOk r Q
-on_more (Ok x) P Q f h = f h
-on_more (Err e) P Q f h = h
+-- a beginning that is all of it
+pub whole : (others : List Draft) (name bytes : List ℕ) (i : ℕ) (now : List Draft) → length bytes ≤ i → now ≡ others ++ (name, take i bytes) ∷ [] → now ≡ others ++ (name, bytes) ∷ []
+whole others name bytes i now all is = is ∙ ap (λ (b : List ℕ). others ++ (name, b) ∷ []) (take_all i bytes all)

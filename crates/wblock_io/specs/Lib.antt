@@ -1,4 +1,4 @@
-pub mod Coming
+pub mod RemainingLines
 pub mod Holding
 pub mod Lines
 pub mod Log

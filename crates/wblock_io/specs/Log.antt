@@ -1,5 +1,5 @@
 -- What files in memory hold.
-use Rattle.std.specs.Prelude.{ℕ, List, [], ◌∷◌, if◌then◌else◌, string_bytes, Option, Some, None, option_map}
+use Rattle.std.specs.Prelude.{ℕ, List, [], ◌∷◌, if◌then◌else◌, map, string_bytes, Option, Some, None}
 use Rattle.std.specs.Str.{bytes_eq}
 use Rattle.wblock_io.specs.Holding.{Draft}
 use Rattle.wblock_io.specs.declared.memory.Held.{Held}
@@ -18,6 +18,10 @@ held (h ∷ hs) name before = held hs name (after h name before)
 abbrev pub held_by : MemoryFiles → List ℕ → Option (List ℕ)
 held_by m name = held m.log.items name None
 
+-- what a file is to hold
+abbrev pub draft_of : Held → Draft
+draft_of h = (string_bytes h.name, h.bytes.items)
+
 -- what is written, and not held yet
-abbrev pub drafted_by : MemoryFiles → Option Draft
-drafted_by m = option_map (λ d. (string_bytes d.name, d.bytes.items)) m.draft
+abbrev pub drafted_by : MemoryFiles → List Draft
+drafted_by m = map draft_of m.drafts.items

@@ -1,7 +1,7 @@
 //! The files of the machine, of which nothing is told.
 
-ghost use Rattle.std.specs.Prelude.{false, None};
-ghost use Rattle.wblock_io.specs.Holding.{IsFailed};
+ghost use Rattle.std.specs.Prelude.{◌≤◌, false, None, [], IfOk, length};
+ghost use Rattle.wblock_io.specs.Holding.{IsFailed, IsNoted};
 
 use crate::cause::Cause;
 use crate::failing::FileFailures;
@@ -15,22 +15,35 @@ use std::path::Path;
 
 /// The files that a runtime reaches. What is put into a draft goes to a temporary file beside the file that it is for, and when the draft is kept the
 /// temporary file is written down to the disk and renamed, so that a crash leaves the old file or the new one. What is there and is no regular file,
-/// as a pipe or a device, is written as it is.
+/// as a pipe or a device, is written as it is, and is closed before the next draft is begun.
 #[derive(Drop)]
 pub struct Disk<'a, R: std::rt::Files> {
     rt: &'a R,
-    draft: Option<Draft<R::File>>,
+    drafts: Vec<Draft<R::File>>,
     failures: FileFailures,
 }
 
-/// The open file that is being written.
+/// A file that is being written.
 #[derive(Drop)]
 struct Draft<F> {
     /// The name that the file was asked for by.
     name: String,
-    file: F,
+    /// The open file, or None where it stands in its place already and is closed.
+    file: Option<F>,
     /// How it takes its place when it is kept, or None where it stands there already.
     renaming: Option<Renaming>,
+}
+
+impl<F: Write> Draft<F> {
+    /// Puts the first bytes at the end of the file, where it is open, and says how many.
+    fn put_some(&mut self, bytes: &[u8]) -> io::Result<usize>
+        ensures { IfOk result (λ n. n ≤ length bytes.now) }
+    {
+        match &mut self.file {
+            Some(file) => file.write(bytes),
+            None => Err(io::Error::from(ErrorKind::NotFound)),
+        }
+    }
 }
 
 /// A temporary file, and the file whose place it takes.
@@ -40,12 +53,12 @@ struct Renaming {
     to: String,
 }
 
-impl<'a, R: std::rt::Files> Disk<'a, R> {
+impl<'a, R: std::rt::Files + AllocGlobal> Disk<'a, R> {
     /// The files that this runtime reaches.
     pub fn new(rt: &'a R) -> Disk<'a, R> {
         Disk {
             rt,
-            draft: None,
+            drafts: Vec::new(rt.alloc()),
             failures: FileFailures::new(Failures::none()),
         }
     }
@@ -56,6 +69,16 @@ impl<'a, R: std::rt::Files> Disk<'a, R> {
     {
         self.failures.count(name);
         Cause::of(kind)
+    }
+
+    /// What an error comes to where the file of this name is written. Want of memory is no failure of the file.
+    fn fault(&mut self, name: &str, kind: ErrorKind) -> WriteFault
+        ensures { IsNoted result name.now self.old.failures self.new.failures }
+    {
+        if kind == ErrorKind::OutOfMemory {
+            return WriteFault::NoMemory;
+        }
+        WriteFault::Failed(self.fail(name, kind))
     }
 }
 
@@ -92,7 +115,7 @@ where
             let file = File::create(rt, name.as_str())?;
             return Ok(Draft {
                 name,
-                file,
+                file: Some(file),
                 renaming: None,
             });
         }
@@ -107,7 +130,7 @@ where
     }
     Ok(Draft {
         name,
-        file,
+        file: Some(file),
         renaming: Some(Renaming { from, to }),
     })
 }
@@ -141,10 +164,10 @@ fn put_in_place<R: std::rt::Files>(
 /// to it: then the file is the new one, and it is not known whether it stays so after a crash. It fails there, too, since who is told that a file is
 /// written may remove what it was made of.
 fn settle<R: std::rt::Files>(rt: &R, draft: &Draft<R::File>) -> io::Result<()> {
-    let Some(renaming) = &draft.renaming else {
+    let (Some(file), Some(renaming)) = (&draft.file, &draft.renaming) else {
         return Ok(());
     };
-    let folder = match put_in_place(rt, &draft.file, renaming) {
+    let folder = match put_in_place(rt, file, renaming) {
         Ok(folder) => folder,
         Err(error) => {
             let _ = rt.remove_file(renaming.from.as_str());
@@ -165,6 +188,13 @@ fn settle<R: std::rt::Files>(rt: &R, draft: &Draft<R::File>) -> io::Result<()> {
     }
 }
 
+/// Removes the temporary file of a draft, if it has one.
+fn discard<R: std::rt::Files>(rt: &R, draft: &Draft<R::File>) {
+    if let Some(renaming) = &draft.renaming {
+        let _ = rt.remove_file(renaming.from.as_str());
+    }
+}
+
 impl<'a, R: std::rt::Files + AllocGlobal> Files for Disk<'a, R>
 where
     R::File: Claim,
@@ -173,7 +203,7 @@ where
 
     ghost holds = { λ _ _. None };
 
-    ghost draft = { λ _. None };
+    ghost drafts = { λ _. [] };
 
     ghost failures = { λ d. d.failures };
 
@@ -195,46 +225,53 @@ where
     }
 
     fn start(&mut self, name: &str) -> Result<(), WriteFault> {
-        self.abandon();
-        match begin(self.rt, self.rt.alloc(), name) {
-            Ok(draft) => {
-                self.draft = Some(draft);
-                Ok(())
+        if let Some(draft) = self.drafts.last_mut() {
+            // who reads a pipe is to see its end
+            if draft.renaming.is_none() {
+                draft.file = None;
             }
-            Err(error) => Err(WriteFault(self.fail(name, error.kind()))),
+        }
+        let draft = match begin(self.rt, self.rt.alloc(), name) {
+            Ok(draft) => draft,
+            Err(error) => return Err(self.fault(name, error.kind())),
+        };
+        match self.drafts.push(draft) {
+            Ok(()) => Ok(()),
+            Err(refused) => {
+                discard(self.rt, &refused.value);
+                Err(WriteFault::NoMemory)
+            }
         }
     }
 
     fn put_some(&mut self, name: &str, bytes: &[u8]) -> Result<usize, WriteFault> {
-        let put = match &mut self.draft {
-            Some(draft) if draft.name.as_str() == name => draft.file.write(bytes),
+        let put = match self.drafts.last_mut() {
+            Some(draft) if draft.name.as_str() == name => draft.put_some(bytes),
             _ => Err(io::Error::from(ErrorKind::NotFound)),
         };
         match put {
             Ok(n) if n > 0 || bytes.is_empty() => Ok(n),
-            Ok(_) => Err(WriteFault(self.fail(name, ErrorKind::StorageFull))),
-            Err(error) => Err(WriteFault(self.fail(name, error.kind()))),
+            Ok(_) => Err(self.fault(name, ErrorKind::StorageFull)),
+            Err(error) => Err(self.fault(name, error.kind())),
         }
     }
 
-    fn keep(&mut self, name: &str) -> Result<(), WriteFault> {
-        let kept = match &self.draft {
-            Some(draft) if draft.name.as_str() == name => settle(self.rt, draft),
-            _ => return Err(WriteFault(self.fail(name, ErrorKind::NotFound))),
-        };
+    fn keep(&mut self, name: &str) -> Result<(), Cause> {
+        if self.drafts.is_empty() || self.drafts[0].name.as_str() != name {
+            return Err(self.fail(name, ErrorKind::NotFound));
+        }
         // the temporary file is gone in any case, and its path may be another run's by now
-        self.draft = None;
-        match kept {
+        let draft = self.drafts.remove(0);
+        match settle(self.rt, &draft) {
             Ok(()) => Ok(()),
-            Err(error) => Err(WriteFault(self.fail(name, error.kind()))),
+            Err(error) => Err(self.fail(name, error.kind())),
         }
     }
 
     fn abandon(&mut self) {
-        if let Some(draft) = self.draft.take() {
-            if let Some(renaming) = &draft.renaming {
-                let _ = self.rt.remove_file(renaming.from.as_str());
-            }
+        for draft in &self.drafts {
+            discard(self.rt, draft);
         }
+        self.drafts.clear();
     }
 }

@@ -14,7 +14,7 @@ mod temporary;
 pub use cause::Cause;
 pub use disk::Disk;
 pub use failing::FileFailures;
-pub use files::{Files, ReadFault, WriteFault, write_file};
+pub use files::{Files, ReadFault, WriteFault, write_draft, write_file};
 pub use lines::{LineFault, LineReader, Lines, MOST_LINE_BYTES, MemoryLines, NextLine};
 pub use memory::MemoryFiles;
 pub use stream::Stream;

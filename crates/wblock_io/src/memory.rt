@@ -1,7 +1,7 @@
 //! Files in memory, as a log of what they were made to hold.
 
-ghost use Rattle.std.specs.Prelude.{◌≡◌, ℕ, List, true, ◌++◌, Some, None, IsTrue, IfOk, OnOk, OnErr, option_map, string_bytes};
-ghost use Rattle.wblock_io.specs.Holding.{Changes, IsKept};
+ghost use Rattle.std.specs.Prelude.{◌≡◌, ℕ, List, [], ◌∷◌, true, ◌++◌, None, IfOk, IfErr, OnOk, OnErr, option_map, string_bytes};
+ghost use Rattle.wblock_io.specs.Holding.{Changes, Draft, IsKept, IsNoted};
 ghost use Rattle.wblock_io.specs.Log.{held_by, drafted_by, after};
 
 use crate::cause::Cause;
@@ -18,12 +18,12 @@ struct Held {
 }
 
 /// Files that keep their bytes, and take at most so many at a time. A call of a chosen number fails, and so do the
-/// read of a file that is not there, a call on a draft that was not begun, and a call that is refused memory.
+/// read of a file that is not there, a call on a draft that is not the file's, and a file that is refused memory as it is kept.
 #[derive(Debug, Drop)]
 pub struct MemoryFiles {
     alloc: Global,
     log: Vec<Held>,
-    draft: Option<Held>,
+    drafts: Vec<Held>,
     piece: usize,
     failures: FileFailures,
 }
@@ -36,7 +36,7 @@ impl MemoryFiles {
         MemoryFiles {
             alloc,
             log: Vec::new(alloc),
-            draft: None,
+            drafts: Vec::new(alloc),
             piece,
             failures: FileFailures::new(failures),
         }
@@ -76,17 +76,36 @@ impl MemoryFiles {
         last
     }
 
-    /// Puts bytes at the end of the draft of a file, where it was begun and memory is given, and says whether it did.
-    fn extend(&mut self, name: &str, bytes: &[u8]) -> bool
-        ensures put { IsTrue result → (front : List ℕ) → drafted_by self.old ≡ Some (name.now, front) → drafted_by self.new ≡ Some (name.now, front ++ bytes.now) }
-        ensures kept { held_by self.new ≡ held_by self.old }
+    /// Begins the draft of a file, behind the others.
+    fn begin(&mut self, name: &str) -> Result<(), AllocError>
+        ensures begun { OnOk result (drafted_by self.new ≡ drafted_by self.old ++ (name.now, []) ∷ []) }
+        ensures same { held_by self.new ≡ held_by self.old }
         ensures calm { self.new.failures ≡ self.old.failures }
     {
-        match &mut self.draft {
+        let name = name.to_string(self.alloc)?;
+        let bytes = Vec::new(self.alloc);
+        self.drafts.push(Held { name, bytes })?;
+        Ok(())
+    }
+
+    /// Puts bytes at the end of the last draft. It fails where that is not the file's.
+    fn extend(&mut self, name: &str, bytes: &[u8]) -> Result<(), WriteFault>
+        ensures put { OnOk result ((others : List Draft) (front : List ℕ) → drafted_by self.old ≡ others ++ (name.now, front) ∷ [] → drafted_by self.new ≡ others ++ (name.now, front ++ bytes.now) ∷ []) }
+        ensures same { held_by self.new ≡ held_by self.old }
+        ensures calm { OnOk result (self.new.failures ≡ self.old.failures) }
+        ensures counted { IfErr result (λ fault. IsNoted fault name.now self.old.failures self.new.failures) }
+    {
+        match self.drafts.last_mut() {
             Some(draft) if draft.name.as_str() == name => {
-                draft.bytes.extend_from_slice(bytes).is_ok()
+                match draft.bytes.extend_from_slice(bytes) {
+                    Ok(()) => Ok(()),
+                    Err(AllocError) => Err(WriteFault::NoMemory),
+                }
             }
-            _ => false,
+            _ => {
+                self.failures.count(name);
+                Err(WriteFault::Failed(Cause::Other))
+            }
         }
     }
 
@@ -94,6 +113,7 @@ impl MemoryFiles {
     fn add(&mut self, held: Held) -> Result<(), AllocError>
         ensures held { OnOk result (Changes (held_by self.old) (held_by self.new) (string_bytes held.name) held.bytes.items) }
         ensures kept { OnErr result (held_by self.new ≡ held_by self.old) }
+        ensures others { self.new.drafts ≡ self.old.drafts }
         ensures calm { self.new.failures ≡ self.old.failures }
     {
         if self.log.push(held).is_err() {
@@ -102,22 +122,19 @@ impl MemoryFiles {
         Ok(())
     }
 
-    /// Makes a file hold its draft. It fails where none was begun and where memory is refused.
-    fn hold_draft(&mut self, name: &str) -> Result<(), WriteFault>
-        ensures kept { OnOk result (IsKept (drafted_by self.old) (held_by self.old) (held_by self.new) name.now) }
+    /// Makes a file hold the first draft, and ends that. It fails where that is not the file's and where memory is refused.
+    fn hold_draft(&mut self, name: &str) -> Result<(), Cause>
+        ensures kept { OnOk result (IsKept name.now (drafted_by self.old) (drafted_by self.new) (held_by self.old) (held_by self.new)) }
         ensures same { OnErr result (held_by self.new ≡ held_by self.old) }
         ensures calm { self.new.failures ≡ self.old.failures }
     {
-        let Some(draft) = self.draft.take() else {
-            return Err(WriteFault(Cause::Other));
-        };
-        if draft.name.as_str() != name {
-            self.draft = Some(draft);
-            return Err(WriteFault(Cause::Other));
+        if self.drafts.is_empty() || self.drafts[0].name.as_str() != name {
+            return Err(Cause::Other);
         }
+        let draft = self.drafts.remove(0);
         match self.add(draft) {
             Ok(()) => Ok(()),
-            Err(AllocError) => Err(WriteFault(Cause::Other)),
+            Err(AllocError) => Err(Cause::Other),
         }
     }
 }
@@ -137,7 +154,7 @@ impl Files for MemoryFiles {
 
     ghost holds = { held_by };
 
-    ghost draft = { drafted_by };
+    ghost drafts = { drafted_by };
 
     ghost failures = { λ m. m.failures };
 
@@ -161,49 +178,39 @@ impl Files for MemoryFiles {
 
     fn start(&mut self, name: &str) -> Result<(), WriteFault> {
         if self.failures.fails(name) {
-            return Err(WriteFault(Cause::Other));
+            return Err(WriteFault::Failed(Cause::Other));
         }
-        match name.to_string(self.alloc) {
-            Ok(name) => {
-                self.draft = Some(Held {
-                    name,
-                    bytes: Vec::new(self.alloc),
-                });
-                Ok(())
-            }
-            Err(_) => {
-                self.failures.count(name);
-                Err(WriteFault(Cause::Other))
-            }
+        match self.begin(name) {
+            Ok(()) => Ok(()),
+            Err(AllocError) => Err(WriteFault::NoMemory),
         }
     }
 
     fn put_some(&mut self, name: &str, bytes: &[u8]) -> Result<usize, WriteFault> {
         if self.failures.fails(name) {
-            return Err(WriteFault(Cause::Other));
+            return Err(WriteFault::Failed(Cause::Other));
         }
         let n = bytes.len().min(self.piece.max(1));
-        if !self.extend(name, &bytes[..n]) {
-            self.failures.count(name);
-            return Err(WriteFault(Cause::Other));
+        match self.extend(name, &bytes[..n]) {
+            Ok(()) => Ok(n),
+            Err(fault) => Err(fault),
         }
-        Ok(n)
     }
 
-    fn keep(&mut self, name: &str) -> Result<(), WriteFault> {
+    fn keep(&mut self, name: &str) -> Result<(), Cause> {
         if self.failures.fails(name) {
-            return Err(WriteFault(Cause::Other));
+            return Err(Cause::Other);
         }
         match self.hold_draft(name) {
             Ok(()) => Ok(()),
-            Err(fault) => {
+            Err(cause) => {
                 self.failures.count(name);
-                Err(fault)
+                Err(cause)
             }
         }
     }
 
     fn abandon(&mut self) {
-        self.draft = None;
+        self.drafts.clear();
     }
 }

@@ -1,7 +1,7 @@
 //! Lines in memory, read one after another.
 
 ghost use Rattle.std.specs.Prelude.{◌≡◌, [], ◌∷◌, ◌++◌, true, OnOk, OnErr};
-ghost use Rattle.wblock_io.specs.Coming.{coming_of};
+ghost use Rattle.wblock_io.specs.RemainingLines.{coming_of};
 
 use crate::lines::{LineFault, Lines, MOST_LINE_BYTES, MemoryLines, NextLine};
 use byte_sinks::Failures;

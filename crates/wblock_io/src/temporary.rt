@@ -1,6 +1,6 @@
 //! Temporary files beside the files whose place they take.
 
-use std::alloc::Global;
+use std::alloc::{AllocError, Global};
 use std::fs::{File, TryLockError};
 use std::io::{self, ErrorKind};
 use std::os::unix::fs::MetadataExt;
@@ -65,7 +65,10 @@ where
     for number in 0..MOST {
         let path = format!(in alloc; "{target}.part-{number}")?;
         if let Some(file) = make_at(rt, path.as_str())? {
-            sweep(rt, alloc, target, number + 1);
+            if let Err(error) = sweep(rt, alloc, target, number + 1) {
+                let _ = rt.remove_file(path.as_str());
+                return Err(io::Error::from(error));
+            }
             return Ok((file, path));
         }
     }
@@ -109,18 +112,17 @@ where
     }
 }
 
-/// Removes what was left under the numbers from this one on, up to the first of which there is no file.
-fn sweep<R: Files>(rt: &R, alloc: Global, target: &str, from: u32)
+/// Removes what was left under the numbers from this one on, up to the first of which there is no file. It fails where memory is refused.
+fn sweep<R: Files>(rt: &R, alloc: Global, target: &str, from: u32) -> Result<(), AllocError>
 where
     R::File: Claim,
 {
     for number in from..MOST {
-        let Ok(path) = format!(in alloc; "{target}.part-{number}") else {
-            return;
-        };
+        let path = format!(in alloc; "{target}.part-{number}")?;
         if rt.symlink_metadata(path.as_str()).is_err() {
-            return;
+            break;
         }
         clear(rt, path.as_str());
     }
+    Ok(())
 }

@@ -1,10 +1,10 @@
 -- What is shown of a module or a world has no float, and few arrays and objects within one another.
-use Rattle.std.proofs.Common.{ℕ, Bool, List, [], ◌∷◌, codes, filter, length, map, slice_get, arith}
+use Rattle.std.proofs.Common.{ℕ, Bool, Option, List, [], ◌∷◌, codes, filter, length, map, slice_get, arith}
 use Rattle.std.specs.FinMap.{entries}
 use Rattle.std.specs.List.{AllByRecursion}
 use Rattle.sha2.specs.Sha256.{sha256}
 use Rattle.wtypes.specs.declared.ValType.{ValType}
-use Rattle.spec_modules.specs.Syntax.{FuncType, Limits, GlobalType, ImportDesc, ImportFunc, ImportTable, ImportMemory, ImportGlobal, ExportDesc, ExportFunc, ExportTable, ExportMemory, ExportGlobal, Import, Export, Func, Global, Module}
+use Rattle.spec_modules.specs.Syntax.{Name, FuncType, Limits, GlobalType, ImportDesc, ImportFunc, ImportTable, ImportMemory, ImportGlobal, ExportDesc, ExportFunc, ExportTable, ExportMemory, ExportGlobal, Import, Export, Func, Global, Module}
 use Rattle.spec_modules.specs.Shape.{size}
 use Rattle.spec_typing.specs.Modules.{type_at, func_type_indices, tables, memories, globals, imported_globals}
 use Rattle.spec_ledger.specs.declared.Kind.{Kind}
@@ -17,10 +17,10 @@ use Rattle.spec_block.specs.Bytes.{world_bytes}
 use Rattle.module_tree.specs.Readers.{imported_funcs}
 use Rattle.world.specs.Views.{is_cell_of}
 use Rattle.serde_json.specs.Data.{Data, boolean, string}
-use Rattle.wblock_calls.specs.Numbers.{number_text}
+use Rattle.wblock_words.specs.Names.{Named, name_among}
 use Rattle.wblock_json.specs.Json.{IsFlat, array_of, hex_data, maybe, numbered, small}
-use Rattle.wblock_json.specs.Modules.{export_data, export_index, export_type, export_word, func_data, func_type_data, global_data, global_type_data, import_data, import_type, import_word, limits_data, module_data, module_members, type_data}
-use Rattle.wblock_json.specs.Worlds.{cell_data, cells_data, cells_of, contract_data, world_data}
+use Rattle.wblock_json.specs.Modules.{export_data, export_index, export_type, export_word, func_data, func_type_data, global_data, global_type_data, import_data, import_type, import_word, limits_data, module_data, module_members, named_func_data, type_data}
+use Rattle.wblock_json.specs.Worlds.{cell_data, cell_number, cells_data, cells_of, contract_data, world_data}
 use Rattle.wblock_json.proofs.Flat.{array_flat, boolean_flat, deeper, map_flat, maybe_flat, numbered_flat, object_flat, small_flat, string_flat}
 
 -- ---- modules
@@ -70,11 +70,11 @@ export_flat m e =
     let members : List (List ℕ × Data) = (codes "name", string e.name) ∷ (codes "kind", string (export_word e.desc)) ∷ (codes "index", small (export_index e.desc)) ∷ (codes "type", export_type m e.desc) ∷ [] in
     object_flat 2 3 members (omega arith) (string_flat 2 _, (string_flat 2 _, (small_flat 2 _, (export_type_flat m e.desc, tt))))
 
-func_flat : (types : List FuncType) (n : ℕ) (f : Func) → IsFlat 3 (func_data types n f)
+func_flat : (types : List FuncType) (called : Option Name) (n : ℕ) (f : Func) → IsFlat 3 (func_data types called n f)
 unfolding func_data
-func_flat types n f =
-    let members : List (List ℕ × Data) = (codes "index", small n) ∷ (codes "type", func_type_data (type_at types f.type_index)) ∷ (codes "locals", small (length f.locals)) ∷ (codes "instructions", small (size f.body)) ∷ [] in
-    object_flat 2 3 members (omega arith) (small_flat 2 _, (func_type_flat _, (small_flat 2 _, (small_flat 2 _, tt))))
+func_flat types called n f =
+    let members : List (List ℕ × Data) = (codes "index", small n) ∷ (codes "type", func_type_data (type_at types f.type_index)) ∷ (codes "locals", small (length f.locals)) ∷ (codes "instructions", small (size f.body)) ∷ (codes "name", maybe string called) ∷ [] in
+    object_flat 2 3 members (omega arith) (small_flat 2 _, (func_type_flat _, (small_flat 2 _, (small_flat 2 _, (maybe_flat 2 string called (λ n. string_flat 2 _), tt)))))
 
 global_flat : (n : ℕ) (g : Global) → IsFlat 3 (global_data n g)
 unfolding global_data
@@ -82,16 +82,16 @@ global_flat n g =
     let members : List (List ℕ × Data) = (codes "index", small n) ∷ (codes "type", global_type_data g.type) ∷ [] in
     object_flat 2 3 members (omega arith) (small_flat 2 _, (global_type_flat g.type, tt))
 
-members_flat : (bytes : ℕ) (m : Module) → AllByRecursion (λ f. IsFlat 4 f.1) (module_members bytes m)
+members_flat : (bytes : ℕ) (names : List Named) (m : Module) → AllByRecursion (λ f. IsFlat 4 f.1) (module_members bytes names m)
 unfolding module_members
-members_flat bytes m = (
+members_flat bytes names m = (
   small_flat 4 _,
   (
     array_flat 3 4 _ (omega arith) (map_flat 3 (import_data m.types) m.imports (import_flat m.types)),
     (
       array_flat 3 4 _ (omega arith) (map_flat 3 (export_data m) m.exports (export_flat m)),
       (
-        array_flat 3 4 _ (omega arith) (numbered_flat 3 (func_data m.types) (imported_funcs m.imports) m.funcs (func_flat m.types)),
+        array_flat 3 4 _ (omega arith) (numbered_flat 3 (named_func_data m.types names) (imported_funcs m.imports) m.funcs (λ n f. func_flat m.types (name_among names n) n f)),
         (
           array_flat 2 4 _ (omega arith) (map_flat 2 limits_data m.tables limits_flat),
           (
@@ -116,24 +116,24 @@ members_flat bytes m = (
   ),
 )
 
-pub module_flat : (bytes : ℕ) (m : Module) → IsFlat 127 (module_data bytes m)
+pub module_flat : (bytes : ℕ) (names : List Named) (m : Module) → IsFlat 127 (module_data bytes names m)
 unfolding module_data
-module_flat bytes m =
-    let members : List (List ℕ × Data) = (codes "kind", string (codes "module")) ∷ module_members bytes m in
-    object_flat 4 127 members (omega arith) (string_flat 4 _, members_flat bytes m)
+module_flat bytes names m =
+    let members : List (List ℕ × Data) = (codes "kind", string (codes "module")) ∷ module_members bytes names m in
+    object_flat 4 127 members (omega arith) (string_flat 4 _, members_flat bytes names m)
 
 -- ---- worlds
 
 contract_flat : (n : ℕ) (c : Contract) → IsFlat 5 (contract_data n c)
 unfolding contract_data
 contract_flat n c =
-    let members : List (List ℕ × Data) = (codes "number", small n) ∷ module_members (length (shortest c.tree)) c.tree in
-    object_flat 4 5 members (omega arith) (small_flat 4 _, members_flat (length (shortest c.tree)) c.tree)
+    let members : List (List ℕ × Data) = (codes "number", small n) ∷ module_members (length (shortest c.tree)) [] c.tree in
+    object_flat 4 5 members (omega arith) (small_flat 4 _, members_flat (length (shortest c.tree)) [] c.tree)
 
 cell_flat : (signed : Bool) (c : Lock × ℕ) → IsFlat 1 (cell_data signed c)
 unfolding cell_data
 cell_flat signed c =
-    let members : List (List ℕ × Data) = (codes "contract", small c.0.contract) ∷ (codes "key", string (number_text signed c.0.key)) ∷ (codes "value", string (number_text signed c.1)) ∷ [] in
+    let members : List (List ℕ × Data) = (codes "contract", small c.0.contract) ∷ (codes "key", cell_number signed c.0.key) ∷ (codes "value", cell_number signed c.1) ∷ [] in
     object_flat 0 1 members (omega arith) (small_flat 0 _, (string_flat 0 _, (string_flat 0 _, tt)))
 
 kind_flat : (signed : Bool) (kind : Kind) (cells : List (Lock × ℕ)) → IsFlat 2 (cells_of signed kind cells)

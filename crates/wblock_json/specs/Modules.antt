@@ -1,12 +1,13 @@
 -- A module as JSON.
-use Rattle.std.specs.Prelude.{ℕ, List, [], ◌∷◌, codes, length, map, slice_get}
+use Rattle.std.specs.Prelude.{ℕ, Option, List, [], ◌∷◌, codes, length, map, slice_get}
 use Rattle.serde_json.specs.Data.{Data, boolean, string}
 use Rattle.wtypes.specs.declared.ValType.{ValType}
-use Rattle.spec_modules.specs.Syntax.{FuncType, Limits, GlobalType, ImportDesc, ImportFunc, ImportTable, ImportMemory, ImportGlobal, ExportDesc, ExportFunc, ExportTable, ExportMemory, ExportGlobal, Import, Export, Func, Global, Module}
+use Rattle.spec_modules.specs.Syntax.{Name, FuncType, Limits, GlobalType, ImportDesc, ImportFunc, ImportTable, ImportMemory, ImportGlobal, ExportDesc, ExportFunc, ExportTable, ExportMemory, ExportGlobal, Import, Export, Func, Global, Module}
 use Rattle.spec_modules.specs.Shape.{size}
 use Rattle.spec_typing.specs.Modules.{type_at, func_type_indices, tables, memories, globals, imported_globals}
 use Rattle.module_tree.specs.Readers.{imported_funcs}
 use Rattle.figures.specs.Names.{type_name}
+use Rattle.wblock_words.specs.Names.{AreNamesOf, Named, name_among}
 use Rattle.wblock_json.specs.Json.{IsJson, array_of, maybe, numbered, object_of, small}
 
 -- ---- types
@@ -82,28 +83,33 @@ export_data m e =
 
 -- ---- what a module defines
 
--- a function, with how many locals it declares, and how many instructions of all depths it has
-unfoldable pub func_data : List FuncType → ℕ → Func → Data
-func_data types n f =
+-- a function, with how many locals it declares, how many instructions of all depths it has, and its name, if any
+unfoldable pub func_data : List FuncType → Option Name → ℕ → Func → Data
+func_data types called n f =
     object_of
     ((codes "index", small n)
     ∷ (codes "type", func_type_data (type_at types f.type_index))
     ∷ (codes "locals", small (length f.locals))
     ∷ (codes "instructions", small (size f.body))
+    ∷ (codes "name", maybe string called)
     ∷ [])
+
+-- by its name among these
+abbrev pub named_func_data : List FuncType → List Named → ℕ → Func → Data
+named_func_data types names n f = func_data types (name_among names n) n f
 
 unfoldable pub global_data : ℕ → Global → Data
 global_data n g = object_of ((codes "index", small n) ∷ (codes "type", global_type_data g.type) ∷ [])
 
 -- ---- modules
 
--- what is told of a module that so many bytes spell; functions and globals by their indices, imports counted first
-unfoldable pub module_members : ℕ → Module → List (List ℕ × Data)
-module_members bytes m =
+-- what is told of a module that so many bytes spell, with these names of functions; functions and globals by their indices, imports counted first
+unfoldable pub module_members : ℕ → List Named → Module → List (List ℕ × Data)
+module_members bytes names m =
     (codes "bytes", small bytes)
     ∷ (codes "imports", array_of (map (import_data m.types) m.imports))
     ∷ (codes "exports", array_of (map (export_data m) m.exports))
-    ∷ (codes "functions", array_of (numbered (func_data m.types) (imported_funcs m.imports) m.funcs))
+    ∷ (codes "functions", array_of (numbered (named_func_data m.types names) (imported_funcs m.imports) m.funcs))
     ∷ (codes "tables", array_of (map limits_data m.tables))
     ∷ (codes "memories", array_of (map limits_data m.memories))
     ∷ (codes "globals", array_of (numbered global_data (length (imported_globals m)) m.globals))
@@ -112,9 +118,11 @@ module_members bytes m =
     ∷ (codes "data", small (length m.datas))
     ∷ []
 
-unfoldable pub module_data : ℕ → Module → Data
-module_data bytes m = object_of ((codes "kind", string (codes "module")) ∷ module_members bytes m)
+unfoldable pub module_data : ℕ → List Named → Module → Data
+module_data bytes names m = object_of ((codes "kind", string (codes "module")) ∷ module_members bytes names m)
 
--- the text of a module that so many bytes spell
-abbrev pub IsModuleJson : ℕ → Module → List ℕ → Type 0
-IsModuleJson bytes m text = IsJson (module_data bytes m) text
+-- the text of a module that these bytes spell, with the names of functions that they carry
+pub record IsModuleJson (bytes : List ℕ) (m : Module) (text : List ℕ) : Type 0 where
+  pub names : List Named
+  pub carried : AreNamesOf bytes names
+  pub text_is : IsJson (module_data (length bytes) names m) text

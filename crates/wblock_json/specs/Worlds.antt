@@ -15,17 +15,20 @@ use Rattle.wblock_calls.specs.Numbers.{number_text}
 use Rattle.wblock_json.specs.Json.{IsJson, array_of, hex_data, numbered, object_of, small}
 use Rattle.wblock_json.specs.Modules.{module_members}
 
--- a contract by its number, with what is told of its module; the bytes are those of the module's shortest spelling
+-- a contract by its number, with what is told of its module; the bytes are those of the module's shortest spelling, which carries no names of functions
 unfoldable pub contract_data : ℕ → Contract → Data
-contract_data n c = object_of ((codes "number", small n) ∷ module_members (length (shortest c.tree)) c.tree)
+contract_data n c = object_of ((codes "number", small n) ∷ module_members (length (shortest c.tree)) [] c.tree)
 
--- key and number of a cell are strings of decimal digits, signed or not
+-- a key or a number of a cell: the string of its decimal digits, signed or not
+abbrev pub cell_number : (signed : Bool) → ℕ → Data
+cell_number signed n = string (number_text signed n)
+
 unfoldable pub cell_data : (signed : Bool) → Lock × ℕ → Data
 cell_data signed cell =
     object_of
     ((codes "contract", small cell.0.contract)
-    ∷ (codes "key", string (number_text signed cell.0.key))
-    ∷ (codes "value", string (number_text signed cell.1))
+    ∷ (codes "key", cell_number signed cell.0.key)
+    ∷ (codes "value", cell_number signed cell.1)
     ∷ [])
 
 -- the cells of a kind, rising by contract and key

@@ -1,22 +1,26 @@
 //! What a module defines as JSON.
 
-ghost use Rattle.std.specs.Prelude.{◌≡◌, ◌+◌, ◌<◌, ◌^◌, IfOk, Some, length, map, vec_len};
+ghost use Rattle.std.specs.Prelude.{◌≡◌, ◌+◌, ◌<◌, ◌^◌, IfOk, Some, length, map, option_map, vec_len};
+ghost use Rattle.serde_json.specs.Data.{string};
 ghost use Rattle.serde_json.specs.View.{view};
+ghost use Rattle.wblock_words.specs.Names.{Rises, names_in};
 ghost use Rattle.body_typing.specs.Spaces.{AreSpaces};
 ghost use Rattle.spec_modules.specs.Shape.{size};
 ghost use Rattle.spec_typing.specs.Modules.{imported_globals};
 ghost use Rattle.module_tree.specs.ModuleView.{func_view, global_view, limits_view};
 ghost use Rattle.module_tree.specs.Modules.{module_view};
 ghost use Rattle.module_tree.specs.Readers.{defined_func, imported_funcs};
-ghost use Rattle.wblock_json.specs.Json.{array_of, numbered};
-ghost use Rattle.wblock_json.specs.Modules.{func_data, global_data, limits_data};
+ghost use Rattle.wblock_json.specs.Json.{array_of, maybe, numbered};
+ghost use Rattle.wblock_json.specs.Modules.{func_data, global_data, limits_data, named_func_data};
 
 use crate::types::{global_type_of, limits_of, type_at_index};
+use crate::values::{null, word_of};
 use body_typing::spaces::Spaces;
 use figures::first_func;
 use module_tree::module::{Func, Global as Variable, Module};
 use serde_json::{Value as Json, json};
 use std::alloc::{AllocError, Global};
+use wblock_words::{FunctionName, first_name, names_from};
 use wtypes::Limits;
 
 /// How many instructions of all depths the function of a number has.
@@ -28,36 +32,57 @@ fn size_of(tree: &Module<Global>, number: u32, func: &Func<Global>) -> u32
     tree.size(number)
 }
 
-/// The function of this number.
+/// A name, as a string; nothing where there is none.
+fn name_or_null(alloc: Global, name: Option<&str>) -> Result<Json, AllocError>
+    ensures { IfOk result (λ v. view v ≡ maybe string (option_map (λ n. n.now) name.entry)) }
+{
+    match name {
+        None => Ok(null()),
+        Some(name) => word_of(alloc, name),
+    }
+}
+
+/// The function of this number and this name.
 #[tactic(auto, unfolding(crate::specs::Modules::func_data))]
 fn func_of(
     alloc: Global,
     tree: &Module<Global>,
     number: u32,
+    name: Option<&str>,
     func: &Func<Global>,
 ) -> Result<Json, AllocError>
     requires { defined_func (module_view tree.now) number ≡ Some (func_view func.now) }
-    ensures { IfOk result (λ v. view v ≡ func_data (module_view tree.now).types number (func_view func.now)) }
+    ensures { IfOk result (λ v. view v ≡ func_data (module_view tree.now).types (option_map (λ n. n.now) name.entry) number (func_view func.now)) }
 {
     let func_type = type_at_index(alloc, &tree.types, func.type_index)?;
     let locals = func.locals.len();
     let instructions = size_of(tree, number, func);
+    let called = name_or_null(alloc, name)?;
     json!(in alloc; {
         "index": number,
         "type": func_type,
         "locals": locals,
         "instructions": instructions,
+        "name": called,
     })
 }
 
-/// The defined functions.
-pub(crate) fn funcs_of(alloc: Global, tree: &Module<Global>) -> Result<Json, AllocError>
-    ensures { IfOk result (λ v. view v ≡ array_of (numbered (func_data (module_view tree.now).types) (imported_funcs (module_view tree.now).imports) (module_view tree.now).funcs)) }
+/// The defined functions, with these names.
+pub(crate) fn funcs_of(
+    alloc: Global,
+    names: &[FunctionName<'_>],
+    tree: &Module<Global>,
+) -> Result<Json, AllocError>
+    requires { Rises (names_in names.now) }
+    ensures { IfOk result (λ v. view v ≡ array_of (numbered (named_func_data (module_view tree.now).types (names_in names.now)) (imported_funcs (module_view tree.now).imports) (module_view tree.now).funcs)) }
 {
     let mut values = Vec::new(alloc);
     let mut number = first_func(tree);
+    let mut left = names;
     for func in &tree.funcs {
-        let value = func_of(alloc, tree, number, func)?;
+        left = names_from(left, number);
+        let name = first_name(left, number);
+        let value = func_of(alloc, tree, number, name, func)?;
         values.push(value)?;
         number += 1;
     }

@@ -16,4 +16,4 @@ pub use modules::module_json;
 pub use refusals::json_refusal;
 pub use types::maybe_number;
 pub use values::{digest_of, hex_of, large_of, line_of, value_line, with_member};
-pub use worlds::world_json;
+pub use worlds::{cell_number_of, world_json};

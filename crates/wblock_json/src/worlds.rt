@@ -3,13 +3,11 @@
 ghost use Rattle.std.specs.Prelude.{◌≡◌, ◌≤◌, IfOk, length, map, string_bytes};
 ghost use Rattle.std.specs.FinMap.{entries};
 ghost use Rattle.sha2.specs.Sha256.{sha256};
-ghost use Rattle.serde_json.specs.Data.{string};
 ghost use Rattle.serde_json.specs.View.{view};
-ghost use Rattle.wblock_calls.specs.Numbers.{number_text};
 ghost use Rattle.spec_block.specs.Bytes.{world_bytes};
 ghost use Rattle.world.specs.Views.{contract_view, world_view};
 ghost use Rattle.wblock_json.specs.Json.{array_of, numbered};
-ghost use Rattle.wblock_json.specs.Worlds.{cell_data, cells_data, cells_of as cells_in, contract_data, world_data, IsWorldJson};
+ghost use Rattle.wblock_json.specs.Worlds.{cell_data, cell_number, cells_data, cells_of as cells_in, contract_data, world_data, IsWorldJson};
 
 use crate::modules::put_module;
 use crate::values::{digest_of, text_of, with_member, word_of};
@@ -30,7 +28,7 @@ fn contract_of(alloc: Global, number: u32, contract: &Deployed<Global>) -> Resul
     let size = shortest_size(alloc, contract.module())?;
     let mut map = Map::new(alloc);
     put(&mut map, alloc, "number", Json::from(number))?;
-    put_module(alloc, &mut map, size, contract.module())?;
+    put_module(alloc, &mut map, size, &[], contract.module())?;
     Ok(Json::from(map))
 }
 
@@ -48,8 +46,8 @@ fn contracts_of(alloc: Global, contracts: &[Deployed<Global>]) -> Result<Json, A
 }
 
 /// A number of a cell, as the string of its decimal digits, signed or not.
-fn number_of(alloc: Global, signed: bool, number: u64) -> Result<Json, AllocError>
-    ensures { IfOk result (λ v. view v ≡ string (number_text signed number)) }
+pub fn cell_number_of(alloc: Global, signed: bool, number: u64) -> Result<Json, AllocError>
+    ensures { IfOk result (λ v. view v ≡ cell_number signed number) }
 {
     let number = NumberText { number, signed };
     let digits = format!(in alloc; "{number}")?;
@@ -60,8 +58,8 @@ fn number_of(alloc: Global, signed: bool, number: u64) -> Result<Json, AllocErro
 fn cell_of(alloc: Global, signed: bool, lock: Lock, value: u64) -> Result<Json, AllocError>
     ensures { IfOk result (λ v. view v ≡ cell_data signed (lock, value)) }
 {
-    let key = number_of(alloc, signed, lock.key)?;
-    let value = number_of(alloc, signed, value)?;
+    let key = cell_number_of(alloc, signed, lock.key)?;
+    let value = cell_number_of(alloc, signed, value)?;
     json!(in alloc; {"contract": lock.contract, "key": key, "value": value})
 }
 

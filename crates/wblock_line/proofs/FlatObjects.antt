@@ -6,7 +6,7 @@ use Rattle.block_judge.specs.Judging.{place_in}
 use Rattle.wblock_json.specs.Json.{IsFlat, maybe, small}
 use Rattle.wblock_json.proofs.Flat.{maybe_flat, null_flat, object_flat, small_flat, string_flat}
 use Rattle.wblock_line.specs.Rejections.{reject_data}
-use Rattle.wblock_line.specs.Told.{bytes_data}
+use Rattle.wblock_line.specs.Forms.{bytes_data}
 
 pub reject_flat : (v : Verdict) (sentence : List ℕ) → IsFlat 127 (reject_data v sentence)
 unfolding reject_data

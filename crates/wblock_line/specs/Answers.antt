@@ -9,7 +9,7 @@ use Rattle.wblock_line.specs.declared.answer.Fault.{Fault}
 use Rattle.wblock_line.specs.declared.answer.Fault.TheVariants.{File, NoMemory}
 use Rattle.wblock_line.specs.declared.perform.Status.{Status}
 use Rattle.wblock_line.specs.declared.perform.Status.TheVariants as status
-use Rattle.wblock_line.specs.Told.{IsCountText}
+use Rattle.wblock_line.specs.Forms.{IsCountText}
 
 -- a text ends with a newline
 abbrev pub EndsLine : List ℕ → Type 0
@@ -74,13 +74,22 @@ Wrote [] old new = new ≡ old
 Wrote (w ∷ ws) old new = (mid : Holding) × Changes old mid w.0 w.1 × Wrote ws mid new
 
 -- the files before the one of this name were written, and it and every other file are as they were
+abbrev pub WroteBefore : List ℕ → List Written → Holding → Holding → Type 0
+WroteBefore name [] old new = ⊥
+WroteBefore name (w ∷ ws) old new = ((name ≡ w.0) × (new ≡ old)) ⊎ ((mid : Holding) × Changes old mid w.0 w.1 × WroteBefore name ws mid new)
+
+-- one of the files has this name
+abbrev pub IsOneOf : List ℕ → List Written → Type 0
+IsOneOf name [] = ⊥
+IsOneOf name (w ∷ ws) = (name ≡ w.0) ⊎ IsOneOf name ws
+
+-- all files before the one of this name were written or none of them was, and it and every other file are as they were
 abbrev pub WroteSome : List ℕ → List Written → Holding → Holding → Type 0
-WroteSome name [] old new = ⊥
-WroteSome name (w ∷ ws) old new = ((name ≡ w.0) × (new ≡ old)) ⊎ ((mid : Holding) × Changes old mid w.0 w.1 × WroteSome name ws mid new)
+WroteSome name ws old new = (IsOneOf name ws × (new ≡ old)) ⊎ WroteBefore name ws old new
 
 -- ---- what fails
 
--- the file of this name failed, and nothing else did: those before it were written, every other is as it was, and nothing was printed
+-- the file of this name failed, and nothing else did: those before it were written or none was, every other is as it was, and nothing was printed
 pub record FileFails (name : List ℕ) (a : Answer) (files output : Bool) (old new : Holding) (failed fails : Failing) (before after : List ℕ) (lost loses : ℕ) : Type 0 where
   pub counted : IsFailed name failed fails
   pub wrote : IsTrue files → WroteSome name (writes_of a) old new
@@ -106,6 +115,16 @@ IsFailing name a files output old new failed fails before after lost loses =
 abbrev pub CountsFault : Fault → Failing → Failing → Type 0
 CountsFault (File name cause) old new = IsFailed name.now old new
 CountsFault NoMemory old new = Unit {0}
+
+-- a file's failure is noted, and want of memory is none
+abbrev pub NotesFault : Fault → Failing → Failing → Type 0
+NotesFault (File name cause) old new = IsFailed name.now old new
+NotesFault NoMemory old new = new ≡ old
+
+-- where files are written, the one that failed leaves those before it written or none, and want of memory leaves every file as it was
+abbrev pub LeavesFiles : Fault → List Written → Holding → Holding → Type 0
+LeavesFiles (File name cause) ws old new = WroteSome name.now ws old new
+LeavesFiles NoMemory ws old new = new ≡ old
 
 -- the status of a fault
 abbrev pub status_of_fault : Fault → Status

@@ -10,5 +10,5 @@ pub mod Rejections
 pub mod Lines
 pub mod Transitions
 pub mod ProgressOfWords
-pub mod Told
+pub mod Forms
 pub mod Upshots

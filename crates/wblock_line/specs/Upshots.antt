@@ -5,7 +5,7 @@ use Rattle.wblock_json.specs.Refusals.{refusal_data}
 use Rattle.wblock_line.specs.declared.answer.Answer.{Answer}
 use Rattle.wblock_line.specs.declared.answer.Answer.TheVariants.{Done, Refused}
 use Rattle.wblock_line.specs.Answers.{Upshot, IsRefusal, upshot_of}
-use Rattle.wblock_line.specs.Told.{IsRefusalIn}
+use Rattle.wblock_line.specs.Forms.{IsRefusalIn}
 
 -- this tells the refusal of a line: the line, or the object of it and of the sentence
 abbrev pub IsToldIn : (json : Bool) → (line sentence text : List ℕ) → Type 0

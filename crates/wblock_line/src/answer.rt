@@ -4,7 +4,7 @@ ghost use Rattle.std.specs.Prelude.{◌≡◌, false, IsTrue, IfOk, IfErr, OnOk,
 ghost use Rattle.serde_json.specs.View.{view};
 ghost use Rattle.wblock_json.specs.Json.{IsJson, IsLineOf};
 ghost use Rattle.wblock_line.specs.Answers.{CountsFault, IsCounted, IsOfFile};
-ghost use Rattle.wblock_line.specs.Told.{bytes_data, IsCountText};
+ghost use Rattle.wblock_line.specs.Forms.{bytes_data, IsCountText};
 
 use serde_json::{Value as Json, json};
 use std::alloc::{AllocError, Global};
@@ -31,7 +31,7 @@ pub enum Answer<'a> {
 }
 
 /// How many bytes were written, as JSON.
-#[tactic(auto, unfolding(crate::specs::Told::bytes_data))]
+#[tactic(auto, unfolding(crate::specs::Forms::bytes_data))]
 fn bytes_of(alloc: Global, count: usize) -> Result<Json, AllocError>
     ensures { IfOk result (λ v. view v ≡ bytes_data count) }
 {

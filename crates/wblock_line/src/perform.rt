@@ -3,14 +3,11 @@
 ghost use Rattle.std.specs.Prelude.{◌≡◌, ◌≢◌, ◌⊎◌, ℕ, List, [], ◌∷◌, ◌++◌, codes, IsTrue, IfErr, OnOk, OnErr, map};
 ghost use Rattle.byte_sinks.specs.Putting.{IsRaised, IsCutShort};
 ghost use Rattle.wblock_io.specs.Holding.{IsFailed};
-ghost use Rattle.wblock_line.specs.Answers.{Wrote, WroteSome, IsFailing, IsSaid, SaysFile, SaysFault, write_of, writes_of, text_of, status_of, status_of_fault, sentence_line, why_line};
+ghost use Rattle.wblock_line.specs.Answers.{Wrote, WroteBefore, IsOneOf, IsOfFile, NotesFault, LeavesFiles, IsFailing, IsSaid, SaysFile, SaysFault, write_of, writes_of, text_of, status_of, status_of_fault, memory_line, sentence_line, why_line};
 
 use crate::answer::{Answer, Fault, Write};
 use byte_sinks::{Sink, SinkFault, put_all};
-use wblock_io::{Cause, Files, WriteFault, write_file};
-
-/// What is said of the output where it failed behind the files of an answer.
-const WRITTEN: &str = "the files of this command were written; only the output failed";
+use wblock_io::{Cause, Files, WriteFault, write_draft};
 
 /// How a line ended.
 #[derive(Clone, Copy, Debug, PartialEq, Eq)]
@@ -40,25 +37,74 @@ fn put_line<E: Sink>(err: &mut E, word: &str, name: &str) -> Result<(), SinkFaul
     Ok(())
 }
 
-/// Writes files, one after another, up to the first that fails, and answers its name and the cause. Each is written whole or left as it was.
-pub fn write_files<'a, F: Files>(
-    files: &mut F,
-    writes: &[Write<'a>],
-) -> Result<(), (&'a str, Cause)>
-    ensures wrote { OnOk result (IsTrue F.tells → Wrote (map write_of writes.now) (F.holds files.old) (F.holds files.new)) }
+/// Writes the draft of each file, one after another, up to the first that fails or for which memory is refused. No file is written yet.
+fn write_drafts<'a, F: Files>(files: &mut F, writes: &[Write<'a>]) -> Result<(), Fault<'a>>
+    ensures written { OnOk result (IsTrue F.tells → F.drafts files.new ≡ F.drafts files.old ++ map write_of writes.now) }
+    ensures same { IsTrue F.tells → F.holds files.new ≡ F.holds files.old }
     ensures calm { OnOk result (F.failures files.new ≡ F.failures files.old) }
-    ensures counted { IfErr result (λ fault. IsFailed fault.0.now (F.failures files.old) (F.failures files.new)) }
-    ensures some { IfErr result (λ fault. IsTrue F.tells → WroteSome fault.0.now (map write_of writes.now) (F.holds files.old) (F.holds files.new)) }
+    ensures counted { IfErr result (λ fault. NotesFault fault (F.failures files.old) (F.failures files.new)) }
+    ensures named { IfErr result (IsOfFile (λ name. IsOneOf name (map write_of writes.now))) }
 {
     match writes {
         [] => Ok(()),
         [first, others @ ..] => {
-            match write_file(files, first.name, first.bytes.as_slice()) {
-                Ok(()) => write_files(files, others),
-                Err(WriteFault(cause)) => Err((first.name, cause)),
+            match write_draft(files, first.name, first.bytes.as_slice()) {
+                Ok(()) => write_drafts(files, others),
+                Err(WriteFault::Failed(cause)) => Err(Fault::File(first.name, cause)),
+                Err(WriteFault::NoMemory) => Err(Fault::NoMemory),
             }
         }
     }
+}
+
+/// Keeps the drafts of these files, one after another, up to the first that fails, and answers its name and the cause.
+fn keep_drafts<'a, F: Files>(files: &mut F, writes: &[Write<'a>]) -> Result<(), (&'a str, Cause)>
+    requires { IsTrue F.tells → F.drafts files.old ≡ map write_of writes.now }
+    ensures wrote { OnOk result (IsTrue F.tells → Wrote (map write_of writes.now) (F.holds files.old) (F.holds files.new)) }
+    ensures calm { OnOk result (F.failures files.new ≡ F.failures files.old) }
+    ensures counted { IfErr result (λ fault. IsFailed fault.0.now (F.failures files.old) (F.failures files.new)) }
+    ensures some { IfErr result (λ fault. IsTrue F.tells → WroteBefore fault.0.now (map write_of writes.now) (F.holds files.old) (F.holds files.new)) }
+{
+    match writes {
+        [] => Ok(()),
+        [first, others @ ..] => {
+            match files.keep(first.name) {
+                Ok(()) => keep_drafts(files, others),
+                Err(cause) => Err((first.name, cause)),
+            }
+        }
+    }
+}
+
+/// Writes the drafts of these files, where there are no others, and then keeps them.
+fn write_and_keep<'a, F: Files>(files: &mut F, writes: &[Write<'a>]) -> Result<(), Fault<'a>>
+    requires { IsTrue F.tells → F.drafts files.old ≡ [] }
+    ensures wrote { OnOk result (IsTrue F.tells → Wrote (map write_of writes.now) (F.holds files.old) (F.holds files.new)) }
+    ensures calm { OnOk result (F.failures files.new ≡ F.failures files.old) }
+    ensures counted { IfErr result (λ fault. NotesFault fault (F.failures files.old) (F.failures files.new)) }
+    ensures left { IfErr result (λ fault. IsTrue F.tells → LeavesFiles fault (map write_of writes.now) (F.holds files.old) (F.holds files.new)) }
+{
+    write_drafts(files, writes)?;
+    match keep_drafts(files, writes) {
+        Ok(()) => Ok(()),
+        Err((name, cause)) => Err(Fault::File(name, cause)),
+    }
+}
+
+/// Writes files: the draft of each, and when all of them stand, each is kept, one after another, up to the first that fails. Each file is written whole or
+/// left as it was. Where memory is refused, and where a file fails before the first is kept, all are as they were.
+pub fn write_files<'a, F: Files>(files: &mut F, writes: &[Write<'a>]) -> Result<(), Fault<'a>>
+    ensures wrote { OnOk result (IsTrue F.tells → Wrote (map write_of writes.now) (F.holds files.old) (F.holds files.new)) }
+    ensures calm { OnOk result (F.failures files.new ≡ F.failures files.old) }
+    ensures counted { IfErr result (λ fault. NotesFault fault (F.failures files.old) (F.failures files.new)) }
+    ensures left { IfErr result (λ fault. IsTrue F.tells → LeavesFiles fault (map write_of writes.now) (F.holds files.old) (F.holds files.new)) }
+{
+    files.abandon();
+    let written = write_and_keep(files, writes);
+    if written.is_err() {
+        files.abandon();
+    }
+    written
 }
 
 /// Prints a text; or says that the output fails, which is the status of a file, and behind it this sentence, where it is not empty.
@@ -142,24 +188,29 @@ pub fn tell_fault<E: Sink>(fault: Fault, err: &mut E) -> Status
 /// What is said of the output where it fails behind these files.
 fn said_behind(writes: &[Write]) -> &'static str {
     if writes.is_empty() {
-        return "";
+        ""
+    } else {
+        "the files of this command were written; only the output failed"
     }
-    WRITTEN
 }
 
 /// Writes the files of an answer and then prints its text, and behind the line of a refusal says on standard error why, and gives the status; or
 /// says on standard error which file failed and why, or `file stdout` for the output, and then that the files were written, if there are any. A file
-/// is written whole or left as it was. Failures of standard error change no status.
+/// is written whole or left as it was. Where memory is refused to the files, all are as they were, nothing is printed, and `memory` is said. Failures of
+/// standard error change no status.
 pub fn carry_out<F: Files, O: Sink, E: Sink>(
     answer: Answer,
     files: &mut F,
     out: &mut O,
     err: &mut E,
 ) -> Status
-    ensures status { result ≢ Status.File → result ≡ status_of answer.entry }
-    ensures wrote { result ≢ Status.File → IsTrue F.tells → Wrote (writes_of answer.entry) (F.holds files.old) (F.holds files.new) }
-    ensures printed { result ≢ Status.File → IsTrue O.tells → O.told out.new ≡ O.told out.old ++ text_of answer.entry }
+    ensures status { result ≢ Status.File → result ≢ Status.Memory → result ≡ status_of answer.entry }
+    ensures wrote { result ≢ Status.File → result ≢ Status.Memory → IsTrue F.tells → Wrote (writes_of answer.entry) (F.holds files.old) (F.holds files.new) }
+    ensures printed { result ≢ Status.File → result ≢ Status.Memory → IsTrue O.tells → O.told out.new ≡ O.told out.old ++ text_of answer.entry }
     ensures failing { result ≡ Status.File → (name : List ℕ) × IsFailing name answer.entry F.tells O.tells (F.holds files.old) (F.holds files.new) (F.failures files.old) (F.failures files.new) (O.told out.old) (O.told out.new) (O.failures out.old) (O.failures out.new) × (IsTrue E.tells → SaysFile name (E.told err.old) (E.told err.new) (E.failures err.old) (E.failures err.new)) }
+    ensures unwritten { result ≡ Status.Memory → IsTrue F.tells → F.holds files.new ≡ F.holds files.old }
+    ensures unprinted { result ≡ Status.Memory → out.new ≡ out.old }
+    ensures memory_said { result ≡ Status.Memory → IsTrue E.tells → IsSaid memory_line (E.told err.old) (E.told err.new) (E.failures err.old) (E.failures err.new) }
     ensures calm_files { result ≢ Status.File → F.failures files.new ≡ F.failures files.old }
     ensures calm_output { result ≢ Status.File → O.failures out.new ≡ O.failures out.old }
     ensures quiet { result ≡ Status.Done → err.new ≡ err.old }
@@ -167,11 +218,14 @@ pub fn carry_out<F: Files, O: Sink, E: Sink>(
 {
     match answer {
         Answer::Done(writes, text) => {
-            if let Err((name, cause)) = write_files(files, writes.as_slice()) {
-                return tell_file(name, cause.words(), err);
+            match write_files(files, writes.as_slice()) {
+                Ok(()) => {
+                    let behind = said_behind(writes.as_slice());
+                    print_text(text.as_str(), behind, out, err)
+                }
+                Err(Fault::File(name, cause)) => tell_file(name, cause.words(), err),
+                Err(Fault::NoMemory) => tell_fault(Fault::NoMemory, err),
             }
-            let behind = said_behind(writes.as_slice());
-            print_text(text.as_str(), behind, out, err)
         }
         Answer::Refused(line, why) => print_refusal(line.as_str(), why.as_str(), out, err),
     }

@@ -11,13 +11,14 @@ use crate::sites::import_text;
 use body_typing::rule::Rule;
 use loader::load;
 use module_tree::limit::Limit;
-use module_tree::module::{Export, ExportDesc, Module};
+use module_tree::module::{ExportDesc, Module};
 use std::alloc::{AllocError, Allocator, Global};
 use std::fmt;
 use typing_errors::{item_text, site_text};
-use wblock_calls::shown;
+use wblock_calls::printable;
 use wblock_words::{
-    FunctionName, form_words, import_words, limit_words, room_words, rule_words, segment_words,
+    first_name, form_words, import_words, limit_words, names_from, names_of, room_words,
+    rule_words, segment_words,
 };
 
 /// Why a module's bytes give no contract, printed as `refused load N P`, `refused check RULE F O` or `refused deploy N I`.
@@ -86,26 +87,12 @@ impl fmt::Display for ModuleRefusal {
     }
 }
 
-/// Whether this is an export of the function of this number.
-fn exports<A: Allocator>(export: &Export<A>, func: u32) -> bool {
-    export.desc == ExportDesc::Func(func)
-}
-
 /// The first name under which a module exports the function of this number, where it does.
 fn export_of<A: Allocator>(module: &Module<A>, func: u32) -> Option<&str> {
     for export in &module.exports {
-        if exports(export, func) {
-            return Some(export.name.as_str());
-        }
-    }
-    None
-}
-
-/// The name of the function of this number among these.
-fn name_among<'b>(names: &[FunctionName<'b>], func: u32) -> Option<&'b str> {
-    for named in names {
-        if named.number == func {
-            return Some(named.name);
+        match export.desc {
+            ExportDesc::Func(number) if number == func => return Some(export.name.as_str()),
+            _ => {}
         }
     }
     None
@@ -122,10 +109,10 @@ fn body_words<A: Allocator>(
 ) -> Result<String, AllocError>
     ensures { IfOk result (λ s. TellsPlace (string_bytes s) (module_view tree.now) func ordinal) }
 {
-    let names = wblock_words::names_of(alloc, bytes)?;
+    let names = names_of(alloc, bytes)?;
     let name = match export_of(tree, func) {
         Some(name) => Some(name),
-        None => name_among(&names, func),
+        None => first_name(names_from(&names, func), func),
     };
     let words = rule_words(alloc, rule, Some(func), name, ordinal)?;
     let site = site_text(alloc, tree, func, ordinal, rule)?;
@@ -148,7 +135,7 @@ fn repeated_text<A: Allocator>(
 ) -> Result<String, AllocError> {
     match module.exports.get(item as usize) {
         Some(export) if rule == Rule::ExportName => {
-            let name = shown(export.name.as_str());
+            let name = printable(export.name.as_str());
             format!(in alloc; "; found: `{name}` again")
         }
         _ => Ok(String::new(alloc)),
@@ -197,34 +184,23 @@ fn unlisted_words(alloc: Global, bytes: &[u8], rule: Rule, item: u32) -> Result<
     }
 }
 
-/// The names of an import of a module of these bytes; none where memory is refused.
-fn names_of(alloc: Global, bytes: &[u8], import: u32) -> Result<String, AllocError> {
-    let Ok(module) = load(alloc, bytes) else {
-        return Ok(String::new(alloc));
-    };
-    let Some(import) = module.imports.get(import as usize) else {
-        return Ok(String::new(alloc));
-    };
-    let from_module = &import.from_module;
-    let name = &import.name;
-    format!(in alloc; "`{from_module}` `{name}`")
-}
-
-/// The sentence of an import that is at fault in a module of these bytes, with what it is.
+/// The sentence of an import that is at fault in a module of these bytes, with its names and what it is.
 fn import_fault_words(
     alloc: Global,
     bytes: &[u8],
     import: u32,
     has_call: bool,
 ) -> Result<String, AllocError> {
-    let names = names_of(alloc, bytes, import)?;
-    let words = import_words(alloc, import, &names, has_call)?;
     let Ok(module) = load(alloc, bytes) else {
-        return Ok(words);
+        return import_words(alloc, import, "", has_call);
     };
     let Some(found) = module.imports.get(import as usize) else {
-        return Ok(words);
+        return import_words(alloc, import, "", has_call);
     };
+    let from_module = &found.from_module;
+    let name = &found.name;
+    let names = format!(in alloc; "`{from_module}` `{name}`")?;
+    let words = import_words(alloc, import, names.as_str(), has_call)?;
     let text = import_text(alloc, &module, found)?;
     format!(in alloc; "{words}; this import is {text}")
 }
@@ -257,6 +233,7 @@ impl ModuleRefusal {
             ModuleRefusal::TableTooLarge => room_words(alloc, false),
         }
     }
+
     /// The line of the refusal of a module of these bytes, and its sentence.
     pub fn lines_of(self, alloc: Global, bytes: &[u8]) -> Result<(String, String), AllocError>
         ensures { IfOk result (λ told. string_bytes told.0 ≡ refusal_text self ++ 10 ∷ []) }

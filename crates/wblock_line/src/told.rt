@@ -1,7 +1,7 @@
 //! A refusal in the form that is asked for.
 
 ghost use Rattle.std.specs.Prelude.{◌≡◌, IfOk, IfErr, string_bytes};
-ghost use Rattle.wblock_line.specs.Told.{IsInForm, IsRefusalIn};
+ghost use Rattle.wblock_line.specs.Forms.{IsInForm, IsRefusalIn};
 
 use crate::answer::{Answer, Fault};
 use std::alloc::{AllocError, Global};

@@ -2,5 +2,5 @@ mod Behind
 mod FlatObjects
 mod Onto
 mod Reading
-mod Told
+mod BadTokens
 mod Unread

@@ -8,7 +8,7 @@ use Rattle.wblock_line.specs.declared.inputs.WorldFile.{WorldFile}
 use Rattle.wblock_line.specs.declared.inputs.WorldFile.TheVariants as file
 use Rattle.wblock_line.specs.Inputs.{GivesWorld}
 use Rattle.wblock_line.specs.Answers.{upshot_of}
-use Rattle.wblock_line.specs.Told.{IsRefusalIn}
+use Rattle.wblock_line.specs.Forms.{IsRefusalIn}
 use Rattle.wblock_line.specs.Upshots.{of_answer}
 use Rattle.wblock_modules.specs.declared.deploy.Modules.TheVariants as modules
 use Rattle.wblock_modules.specs.Deploys.{Deploys, GivesBase, IsBase, IsReadBehind, RefusesOld, TellsNoBase}

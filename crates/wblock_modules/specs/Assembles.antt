@@ -13,7 +13,7 @@ use Rattle.wblock_io.specs.Holding.{Holding}
 use Rattle.wblock_line.specs.declared.answer.Answer.{Answer}
 use Rattle.wblock_line.specs.declared.answer.Answer.TheVariants.{Done, Refused}
 use Rattle.wblock_line.specs.Answers.{IsCounted}
-use Rattle.wblock_line.specs.Told.{IsInForm}
+use Rattle.wblock_line.specs.Forms.{IsInForm}
 
 -- ---- refusals
 

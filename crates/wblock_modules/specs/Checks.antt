@@ -7,7 +7,7 @@ use Rattle.wblock_line.specs.declared.answer.Answer.{Answer}
 use Rattle.wblock_line.specs.declared.answer.Answer.TheVariants.{Done, Refused}
 use Rattle.wblock_line.specs.Modules.{IsValidOf}
 use Rattle.wblock_line.specs.Refusals.{TellsNoModule}
-use Rattle.wblock_line.specs.Told.{IsInForm}
+use Rattle.wblock_line.specs.Forms.{IsInForm}
 use Rattle.wblock_modules.specs.Objects.{valid_data}
 
 -- the bytes spell a valid module that defines so many functions

@@ -10,7 +10,7 @@ use Rattle.wblock_line.specs.declared.answer.Answer.{Answer}
 use Rattle.wblock_line.specs.declared.answer.Answer.TheVariants.{Done, Refused}
 use Rattle.wblock_line.specs.Answers.{IsCounted}
 use Rattle.wblock_line.specs.Refusals.{TellsNoModule}
-use Rattle.wblock_line.specs.Told.{IsInForm}
+use Rattle.wblock_line.specs.Forms.{IsInForm}
 use Rattle.wblock_modules.specs.declared.text.Found.{Found}
 use Rattle.wblock_modules.specs.declared.text.Found.TheVariants as found
 

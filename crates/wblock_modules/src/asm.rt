@@ -37,7 +37,7 @@ pub fn spell(alloc: Global, text: &str) -> Result<Vec<u8>, AsmRefusal>
 }
 
 /// The number of a refusal, and its place or the number of the limit that is passed; or None for lack of memory.
-pub fn numbered(refusal: AsmRefusal) -> Option<(u8, usize)>
+pub fn refusal_number(refusal: AsmRefusal) -> Option<(u8, usize)>
     ensures { result ≡ told refusal }
 {
     match refusal {
@@ -73,7 +73,7 @@ fn refuse<'a>(alloc: Global, text: &str, refusal: AsmRefusal) -> Result<Answer<'
     ensures line { IfOk result (IsRefusalOf refusal) }
     ensures fault { IfErr result (λ f. f ≡ Fault.NoMemory) }
 {
-    let Some((number, place)) = numbered(refusal) else {
+    let Some((number, place)) = refusal_number(refusal) else {
         return Err(Fault::NoMemory);
     };
     match refusal_text(alloc, text, refusal, number, place) {

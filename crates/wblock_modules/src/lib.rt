@@ -7,7 +7,7 @@ mod deploy;
 mod places;
 mod text;
 
-pub use asm::{assemble_file, numbered, spell};
+pub use asm::{assemble_file, refusal_number, spell};
 pub use check::{check_module, count_functions};
 pub use deploy::{
     Modules, deploy_modules, empty_world, encode_extended, extend, read_modules_behind,

@@ -13,6 +13,7 @@ use wblock_io::Files;
 use wblock_line::{
     Answer, Fault, Stop, in_form, read_file, read_module, read_valid, write_counted,
 };
+use wblock_words::names_of;
 
 /// What a module comes to.
 #[derive(Drop)]
@@ -44,7 +45,16 @@ fn read_tree(alloc: Global, unchecked: bool, bytes: &[u8]) -> Result<Module<Glob
     }
 }
 
-/// The text of the module of these bytes, where it is valid; unchecked, valid or not.
+/// The names of functions that these bytes carry, with the functions' numbers.
+fn carried_names<'b>(alloc: Global, bytes: &'b [u8]) -> Result<Vec<(u32, &'b str)>, AllocError> {
+    let mut names = Vec::new(alloc);
+    for carried in names_of(alloc, bytes)? {
+        names.push((carried.number, carried.name))?;
+    }
+    Ok(names)
+}
+
+/// The text of the module of these bytes, where it is valid; unchecked, valid or not. Comments in it tell the names of functions that the bytes carry.
 ///
 /// # Errors
 ///
@@ -58,7 +68,11 @@ pub fn find_text(alloc: Global, unchecked: bool, bytes: &[u8]) -> Result<Found, 
         Ok(tree) => tree,
         Err(stop) => return Err(stop),
     };
-    match text_of(alloc, &tree) {
+    let names = match carried_names(alloc, bytes) {
+        Ok(names) => names,
+        Err(AllocError) => return Err(Stop::NoMemory),
+    };
+    match text_of(alloc, &tree, &names) {
         Ok(text) => Ok(Found::Text(text)),
         Err(TextRefusal::TooLong) => Ok(Found::TooLong),
         Err(TextRefusal::Unwritten) => Ok(Found::Unwritten),

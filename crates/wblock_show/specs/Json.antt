@@ -1,5 +1,5 @@
 -- What `show --json` answers.
-use Rattle.std.specs.Prelude.{◌≡◌, ◌⊎◌, ℕ, Bool, true, Option, Some, None, List, [], length}
+use Rattle.std.specs.Prelude.{◌≡◌, ◌⊎◌, ℕ, Bool, true, Option, Some, None, List, []}
 use Rattle.spec_modules.specs.Syntax.{Module}
 use Rattle.spec_block.specs.Worlds.{Block, Call, World}
 use Rattle.spec_block.specs.Bytes.{SpellsBlock, SpellsWorld}
@@ -14,7 +14,7 @@ use Rattle.wblock_line.specs.Answers.{writes_of, text_of, status_of}
 use Rattle.wblock_line.specs.declared.perform.Status.TheVariants as status
 use Rattle.wblock_line.specs.Modules.{IsValidOf}
 use Rattle.wblock_line.specs.Refusals.{TellsNoModule}
-use Rattle.wblock_line.specs.Told.{IsInForm}
+use Rattle.wblock_line.specs.Forms.{IsInForm}
 use Rattle.wblock_line.specs.Worlds.{TellsNoWorld}
 use Rattle.wblock_contents.specs.declared.kind.Kind.{Kind}
 use Rattle.wblock_contents.specs.declared.kind.Kind.TheVariants as kind
@@ -61,7 +61,7 @@ TellsFileBlock holds task a = TellsCallsRefusal holds task.calls a ⊎ TellsFile
 pub record TellsModuleJson (bytes text : List ℕ) : Type 0 where
   pub tree : Module
   pub valid : IsValidOf bytes tree
-  pub text_is : IsLineOf (IsModuleJson (length bytes) tree) text
+  pub text_is : IsLineOf (IsModuleJson bytes tree) text
 
 -- the bytes spell a world, and the text is its line
 pub record TellsWorldJson (signed : Bool) (bytes text : List ℕ) : Type 0 where

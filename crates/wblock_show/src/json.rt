@@ -1,6 +1,6 @@
 //! The command `show FILE --json [--calls CALLS] [--signed]`: what is in a module, a world or a block, as one JSON object on a line.
 
-ghost use Rattle.std.specs.Prelude.{◌≡◌, IsTrue, IfOk, IfErr, MatchResult, OnOk, length, string_bytes};
+ghost use Rattle.std.specs.Prelude.{◌≡◌, IsTrue, IfOk, IfErr, MatchResult, OnOk, string_bytes};
 ghost use Rattle.module_tree.specs.Modules.{module_view};
 ghost use Rattle.typing.specs.Parts.{tree_of};
 ghost use Rattle.world.specs.Views.{world_view};
@@ -121,9 +121,9 @@ fn tell_file_block<'a, F: Files>(
 
 /// The line of the valid module that bytes spell.
 fn module_line_of(alloc: Global, bytes: &[u8], valid: &Valid<Global>) -> Result<String, AllocError>
-    ensures { IfOk result (λ text. IsLineOf (IsModuleJson (length bytes.now) (module_view (tree_of valid.now))) (string_bytes text)) }
+    ensures { IfOk result (λ text. IsLineOf (IsModuleJson bytes.now (module_view (tree_of valid.now))) (string_bytes text)) }
 {
-    let json = module_json(alloc, bytes.len(), valid.module())?;
+    let json = module_json(alloc, bytes, valid.module())?;
     line_of(json)
 }
 

@@ -65,7 +65,7 @@ pub const JSON: Switch = Switch {
 /// The numbers of cells, signed.
 pub const SIGNED: Switch = Switch {
     name: "signed",
-    help: "Shows keys and numbers of a world's cells signed, as CALLS takes them",
+    help: "Shows keys and numbers of cells signed, as lines of calls take them",
 };
 
 /// The text of a module that need not be valid.

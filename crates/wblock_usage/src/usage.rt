@@ -1,6 +1,7 @@
 //! What is said of a line of words that asks for nothing, and what the program says of itself.
 
-ghost use Rattle.std.specs.Prelude.{◌≡◌, IfOk, IfErr, string_bytes};
+ghost use Rattle.std.specs.Prelude.{◌≡◌, IfOk, IfErr, IsErr, string_bytes};
+ghost use Rattle.clap.specs.Words.{kind_of};
 ghost use Rattle.wblock_line.specs.Answers.{EndsLine};
 ghost use Rattle.wblock_usage.specs.Texts.{TellsText};
 
@@ -10,7 +11,8 @@ use crate::declared::{
 };
 use crate::misuse::misuse_text;
 use clap::builder::ValueParser;
-use clap::{Arg, ArgAction, Command};
+use clap::error::ErrorKind;
+use clap::{Arg, ArgAction, Command, Error};
 use std::alloc::{AllocError, Global};
 use wblock_line::{Answer, Fault};
 
@@ -170,7 +172,8 @@ fn call<'a>(alloc: Global) -> Result<Command<'a>, AllocError> {
                 "The arguments, each `i32:N` or `i64:N` with N in signed decimal",
             ),
         )?
-        .arg(switch(alloc, JSON))
+        .arg(switch(alloc, JSON))?
+        .arg(switch(alloc, SIGNED))
 }
 
 fn debug<'a>(alloc: Global) -> Result<Command<'a>, AllocError> {
@@ -192,6 +195,7 @@ fn debug<'a>(alloc: Global) -> Result<Command<'a>, AllocError> {
             "The fuel with which BLOCK is judged, 0 to 18446744073709551615: the calls before CALL run for at most this; if not given, it is the least that its calls need",
         ))?
         .arg(switch(alloc, JSON))?
+        .arg(switch(alloc, SIGNED))?
         .arg(switch(alloc, QUIET))
 }
 
@@ -233,11 +237,21 @@ fn program<'a>(alloc: Global) -> Result<Command<'a>, AllocError> {
         .subcommand(show(alloc)?)
 }
 
+/// The text of what the command line's reader answers where it gives no matches. Want of memory has none.
+fn text_of(alloc: Global, error: &Error) -> Result<String, AllocError>
+    ensures { kind_of error.now ≡ ErrorKind.OutOfMemory → IsErr result }
+{
+    if error.kind() == ErrorKind::OutOfMemory {
+        return Err(AllocError);
+    }
+    error.to_string(alloc)
+}
+
 /// What the command line's reader says of these words; what is wrong by the program's own reading where it does not refuse them.
 fn said_of<'a>(alloc: Global, words: &'a [&'a str]) -> Result<String, AllocError> {
     match program(alloc)?.try_get_matches_from(words) {
         Ok(_) => misuse_text(alloc, words),
-        Err(error) => error.to_string(alloc),
+        Err(error) => text_of(alloc, &error),
     }
 }
 

@@ -1,3 +1,4 @@
 mod Fronts
+mod Named
 mod Sections
 mod Maps

@@ -1,9 +1,9 @@
 //! The names of functions that a module carries in its custom section `name` (Core Specification, 7.4.1 Name Section).
 
-ghost use Rattle.std.specs.Prelude.{◌≡◌, ℕ, List, IfOk, MatchOption};
+ghost use Rattle.std.specs.Prelude.{◌≡◌, ◌≤◌, ℕ, List, IfOk, MatchOption, option_map};
 ghost use Rattle.spec_modules.specs.Language.{◌⨾◌};
 ghost use Rattle.spec_modules.specs.Grammar.{header};
-ghost use Rattle.wblock_words.specs.Names.{AreNamesOf, Named, Rises, name_map, names_in};
+ghost use Rattle.wblock_words.specs.Names.{AreNamesOf, IsFrom, Named, Rises, name_among, name_map, names_in};
 ghost use Rattle.wblock_words.specs.Parts.{HasFunctions, HasNameSection, IsNameData, IsOnly, exactly, is_above};
 
 use crate::parts::{name_and_rest, number_and_rest, section_and_rest};
@@ -151,4 +151,39 @@ pub fn names_of<'b, A: Allocator + Copy>(
         Some(names) => Ok(names),
         None => Ok(Vec::new(alloc)),
     }
+}
+
+/// The name of the function of this number, which is the first of these where there is one.
+pub fn first_name<'b>(names: &[FunctionName<'b>], number: u32) -> Option<&'b str>
+    requires rises { Rises (names_in names.now) }
+    requires from { IsFrom number (names_in names.now) }
+    ensures { option_map (λ n. n.now) result ≡ name_among (names_in names.now) number }
+{
+    match names.split_first() {
+        Some((first, _rest)) => {
+            if first.number == number {
+                Some(first.name)
+            } else {
+                None
+            }
+        }
+        None => None,
+    }
+}
+
+/// The names of the functions from this one on.
+pub fn names_from<'n, 'b>(names: &'n [FunctionName<'b>], number: u32) -> &'n [FunctionName<'b>]
+    requires { Rises (names_in names.now) }
+    ensures rises { Rises (names_in result.now) }
+    ensures from { IsFrom number (names_in result.now) }
+    ensures same { (later : ℕ) → number ≤ later → name_among (names_in result.now) later ≡ name_among (names_in names.entry.now) later }
+{
+    let mut rest = names;
+    while let [first, more @ ..] = rest {
+        if first.number >= number {
+            return rest;
+        }
+        rest = more;
+    }
+    rest
 }

@@ -16,7 +16,7 @@ mod worlds;
 
 pub use blocks::{advice_on, block_words};
 pub use entries::entry_words;
-pub use function_names::{FunctionName, names_of};
+pub use function_names::{FunctionName, first_name, names_from, names_of};
 pub use modules::{form_words, import_words, limit_words, room_words, rule_words, segment_words};
 pub use places::{LineColumn, place_of};
 pub use texts::text_words;

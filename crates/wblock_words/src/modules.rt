@@ -8,7 +8,7 @@ use crate::extensions::{FLOATS, extension_at};
 use body_typing::rule::Rule;
 use module_tree::limit::Limit;
 use std::alloc::{AllocError, Global};
-use wblock_calls::{place_line, shown};
+use wblock_calls::{place_line, printable};
 
 /// What to do where a limit is passed.
 fn limit_advice(limit: Limit) -> &'static str {
@@ -76,7 +76,7 @@ fn function_fault(
 ) -> Result<String, AllocError> {
     match name {
         Some(name) => {
-            let name = shown(name);
+            let name = printable(name);
             format!(in alloc;
                 ", `{name}`, instruction {ordinal}: {rule}; functions and instructions count from 0, imports first"
             )
@@ -130,7 +130,7 @@ fn import_advice(names: &str) -> &'static str {
 /// What is said of an import of these names.
 fn import_fault(alloc: Global, names: &str, has_call: bool) -> Result<String, AllocError> {
     let advice = import_advice(names);
-    let names = shown(names);
+    let names = printable(names);
     if has_call {
         return format!(in alloc;
             ", {names}: it has another type than this host call; `get` and `total` are (param i64) (result i64), `has` and `del` (param i64) (result i32), `put` and `add` (param i64) (param i64), `ask` is (param i32) (param i32) (param i64) (result i32), and `answer` (result i64)"

@@ -5,7 +5,7 @@ use crate::places::place_of;
 use lexer::LexRefusal;
 use std::alloc::{AllocError, Global};
 use text_resolve::AsmRefusal;
-use wblock_calls::shown;
+use wblock_calls::printable;
 
 /// Whether a character ends a word.
 fn is_end(c: char) -> bool {
@@ -149,7 +149,7 @@ fn at_place(alloc: Global, text: &str, fault: Fault, at: usize) -> Result<String
         return format!(in alloc; "text, line {line}, column {column}: {cause}");
     }
     let (cause, advice) = cause_of(fault, before, rest);
-    let word = shown(first_word(rest));
+    let word = printable(first_word(rest));
     format!(in alloc; "text, line {line}, column {column}, `{word}`: {cause}{advice}")
 }
 

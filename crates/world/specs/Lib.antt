@@ -1,4 +1,4 @@
-pub mod Kept
+pub mod WorldDigest
 pub mod Views
 pub mod Cells
 pub mod Reading

@@ -15,7 +15,7 @@ use wtypes::NoMemory;
 /// # Errors
 ///
 /// Memory was refused.
-pub fn copied<A: Allocator + Copy>(
+pub fn copy_contracts<A: Allocator + Copy>(
     alloc: A,
     contracts: &[Deployed<A>],
 ) -> Result<Vec<Deployed<A>, A>, NoMemory>
@@ -40,5 +40,5 @@ pub fn world_after<A: Allocator + Copy>(
 ) -> Result<World<A>, NoMemory>
     ensures { IfOk result (λ next. world_view next ≡ world_after (world_view world.now) cells.cells) }
 {
-    Ok(World::new(copied(alloc, world.contracts())?, cells))
+    Ok(World::new(copy_contracts(alloc, world.contracts())?, cells))
 }

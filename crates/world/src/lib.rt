@@ -12,7 +12,7 @@ mod store;
 mod value;
 mod write;
 
-pub use after::{copied, world_after};
+pub use after::{copy_contracts, world_after};
 pub use cells::read_cells;
 pub use read::read_world;
 pub use records::ReadRefusal;

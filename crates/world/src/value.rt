@@ -2,7 +2,7 @@
 
 ghost use Rattle.std.specs.Prelude.{◌≤◌, vec_len};
 ghost use Rattle.std.proofs.Props.{props};
-ghost use Rattle.world.specs.Kept.{IsKeptDigest};
+ghost use Rattle.world.specs.WorldDigest.{IsKeptDigest};
 
 use link::deployed::Deployed;
 use std::alloc::{Allocator, Global};

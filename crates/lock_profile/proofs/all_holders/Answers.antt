@@ -9,4 +9,4 @@ pub loop-one-preserved : goal.loop-one-preserved
 loop-one-preserved g c =
     let item = get_or_read c.args.touched.now c.loop-one.one-index c.one-item.result c.loop-one-test.true c.one-item.is finite.empty in
     call_added c.loop-one.holders.items c.add_holders.new.holders.items _ c.args.touched.now c.loop-one.one-index finite.empty c.loop-one-test.true
-    (c.in_ok-add_holders.ensures ∙ ap (λ es. c.loop-one.holders.items ++ numbered (length c.loop-one.holders.items) es) (c.held.ensures ∙ ap finite.entries item)) c.loop-one.invariant
+    (c.in_ok-add_holders.ensures ∙ ap (λ es. c.loop-one.holders.items ++ numbered (length c.loop-one.holders.items) es) (c.lock_modes.ensures ∙ ap finite.entries item)) c.loop-one.invariant

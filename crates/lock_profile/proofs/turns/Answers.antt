@@ -29,7 +29,7 @@ loop-one-preserved g c =
     let len : length c.loop-one.profiles.items ≡ c.loop-one.one-index = c.loop-one.invariant.0 in
     let here = held_left c.args.touched.now i c.loop-one-test.true _ c.loop-one.invariant.3 in
     let fits = c.loop-one.invariant.2 in
-    let held = sym (length-map c.held.result.now pair_of) ∙ ap length c.held.ensures ∙ ap (λ m. length (finite.entries m)) item in (
+    let held = sym (length-map c.lock_modes.result.now pair_of) ∙ ap length c.lock_modes.ensures ∙ ap (λ m. length (finite.entries m)) item in (
       ap length c.in_ok-push.ensures.items ∙ length_push c.loop-one.profiles.items c.in_ok-profile.profile ∙ ap (λ n. n + 1) len,
       below_more (λ p. get_or c.push.new.self.items p [] ≡ profile_at c.args.touched.now p) _
           (λ p h. ap (λ ps. get_or ps p []) c.in_ok-push.ensures.items ∙ get_or_append_left c.loop-one.profiles.items _ [] p (omega (arith, h, len)) ∙ c.loop-one.invariant.1 p h)
@@ -39,7 +39,7 @@ loop-one-preserved g c =
           ∙ ap (λ ts. with_turns (finite.entries (get_or c.args.touched.now c.loop-one.one-index finite.empty)) (drop c.loop-one.start ts)) c.deref.ensures.value
           ∙ profile_written c.args.touched.now c.loop-one.one-index c.loop-one-test.true _ c.loop-one.invariant.3),
       omega (arith, here, fits, held),
-      sym (drop-drop (length c.held.result.now) c.loop-one.start c.in_ok-turns.turns.items)
+      sym (drop-drop (length c.lock_modes.result.now) c.loop-one.start c.in_ok-turns.turns.items)
           ∙ ap (λ n. drop n (drop c.loop-one.start c.in_ok-turns.turns.items)) held
           ∙ rest_left c.args.touched.now c.loop-one.one-index c.loop-one-test.true _ c.loop-one.invariant.3,
     )

@@ -2,7 +2,7 @@ use Rattle.std.proofs.Common.{sym, arith}
 use Rattle.block_judge.specs.Judging.{told}
 use Rattle.block_judge.proofs.Stages.{first_joined}
 use Rattle.world.specs.Views.{world_view}
-use Rattle.validator.specs.Tried.{Holds}
+use Rattle.validator.specs.Trials.{Holds}
 use Rattle.validator.proofs.first_unfit.Goals as goal
 
 pub returns-in-Ok : goal.returns-in-Ok

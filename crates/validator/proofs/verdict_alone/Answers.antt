@@ -1,4 +1,4 @@
-use Rattle.validator.specs.Tried.{IsFirst}
+use Rattle.validator.specs.Trials.{IsFirst}
 use Rattle.validator.proofs.Fits.{may_run, told_first}
 use Rattle.validator.proofs.verdict_alone.Goals as goal
 

@@ -1,6 +1,6 @@
 use Rattle.std.proofs.Common.{subst, IfErr, OnOk}
 use Rattle.block_judge.specs.Judging.{IfRejected}
-use Rattle.validator.specs.Tried.{IsFirst, IsFit}
+use Rattle.validator.specs.Trials.{IsFirst, IsFit}
 use Rattle.validator.proofs.Fits.{told_first}
 use Rattle.validator.proofs.verdict_in_order.Goals as goal
 

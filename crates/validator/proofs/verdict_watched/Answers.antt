@@ -1,4 +1,4 @@
-use Rattle.validator.specs.Tried.{IsFirst}
+use Rattle.validator.specs.Trials.{IsFirst}
 use Rattle.validator.proofs.Fits.{told_first}
 use Rattle.validator.proofs.verdict_watched.Goals as goal
 

@@ -1,4 +1,4 @@
-use Rattle.block_judge.proofs.Told.{told}
+use Rattle.block_judge.proofs.BlockStatements.{told}
 use Rattle.block_judge.proofs.prefix_laws.tells_of_the_run.Goals as goal
 
 pub returns : goal.returns

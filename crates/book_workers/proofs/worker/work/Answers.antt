@@ -1,7 +1,7 @@
 use Rattle.std.proofs.Common.{◌≡◌, sym, subst}
 use Rattle.spec_ledger.specs.declared.Version.TheVariants.{Two}
 use Rattle.interp.specs.Callee.{setting_view}
-use Rattle.book_workers.specs.Handed.{AreAllRuns}
+use Rattle.book_workers.specs.CommittedRuns.{AreAllRuns}
 use Rattle.book_workers.proofs.worker.work.Goals as goal
 use Rattle.book_workers.proofs.worker.work.Goals.{else-loop-test, then-loop-test+in_default, then-loop-test+in-Some+else-not-reserve+in_ok-work_on+then-branch}
 

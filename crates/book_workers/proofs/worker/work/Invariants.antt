@@ -1,7 +1,7 @@
 use Rattle.spec_ledger.specs.declared.Version.TheVariants.{Two}
 use Rattle.interp.specs.Callee.{setting_view}
 use Rattle.book_workers.specs.Intakes.{IsSeatOf}
-use Rattle.book_workers.specs.Handed.{AreRuns}
+use Rattle.book_workers.specs.CommittedRuns.{AreRuns}
 use Rattle.book_workers.proofs.worker.work.Given as goal
 
 abbrev pub invariant-loop : goal.invariant-loop

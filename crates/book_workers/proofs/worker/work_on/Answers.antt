@@ -1,5 +1,5 @@
 use Rattle.std.proofs.Common.{IfSome, subst}
-use Rattle.book_workers.specs.Handed.{IsCommitted}
+use Rattle.book_workers.specs.CommittedRuns.{IsCommitted}
 use Rattle.spec_ledger.specs.declared.Version.TheVariants.{Two}
 use Rattle.interp.specs.Callee.{setting_view}
 use Rattle.book_workers.proofs.Runs.{one_more_run}

@@ -1,5 +1,5 @@
 use Rattle.std.proofs.Common.{◌≡◌, length, drop}
-use Rattle.boost.specs.Kept.{live_with}
+use Rattle.boost.specs.BookInvariant.{live_with}
 use Rattle.boost.proofs.standing.note_places.Given as goal
 
 abbrev pub invariant-loop-place : goal.invariant-loop-place

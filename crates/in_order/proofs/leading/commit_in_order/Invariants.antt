@@ -1,5 +1,5 @@
 use Rattle.in_order.specs.Progress.{IsProgressOf}
-use Rattle.in_order.specs.Handed.{IsQueueEndOf, IsReorderBufferOf}
+use Rattle.in_order.specs.Queues.{IsQueueEndOf, IsReorderBufferOf}
 use Rattle.in_order.proofs.leading.commit_in_order.Given as goal
 
 abbrev pub invariant-loop : goal.invariant-loop

@@ -1,4 +1,4 @@
-use Rattle.in_order.specs.Handed.{IsQueueEndOf}
+use Rattle.in_order.specs.Queues.{IsQueueEndOf}
 use Rattle.in_order.specs.Shares.{AreSpeculativeRunsOf}
 use Rattle.in_order.proofs.line.hand_over.Given as goal
 

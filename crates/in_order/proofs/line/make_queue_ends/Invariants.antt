@@ -1,6 +1,6 @@
 use Rattle.std.proofs.Common.{All}
 use Rattle.lanes.specs.Passes.{IsPassOf}
-use Rattle.in_order.specs.Handed.{IsQueueEndOf}
+use Rattle.in_order.specs.Queues.{IsQueueEndOf}
 use Rattle.in_order.proofs.line.make_queue_ends.Given as goal
 
 abbrev pub invariant-loop : goal.invariant-loop

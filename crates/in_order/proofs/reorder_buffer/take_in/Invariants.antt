@@ -1,4 +1,4 @@
-use Rattle.in_order.specs.Handed.{IsQueueEndOf, IsReorderBufferOf}
+use Rattle.in_order.specs.Queues.{IsQueueEndOf, IsReorderBufferOf}
 use Rattle.in_order.proofs.reorder_buffer.take_in.Given as goal
 
 abbrev pub invariant-loop : goal.invariant-loop

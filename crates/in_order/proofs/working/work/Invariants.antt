@@ -1,4 +1,4 @@
-use Rattle.in_order.specs.Handed.{IsQueueEndOf}
+use Rattle.in_order.specs.Queues.{IsQueueEndOf}
 use Rattle.in_order.proofs.working.work.Given as goal
 
 abbrev pub invariant-loop : goal.invariant-loop

@@ -13,7 +13,7 @@ use Rattle.interp.proofs.Copying.{room_kept}
 use Rattle.interp_state.specs.ViewLaws.{items_nil, ordered_any, last_of}
 use Rattle.interp.proofs.Turning.{live_of, below, safe_at, machine_fell, has_fallen}
 use Rattle.interp.specs.Machine.{progress}
-use Rattle.interp.specs.Going.{none, one_more}
+use Rattle.interp.specs.Turns.{none, one_more}
 use Rattle.interp.proofs.Wanting.{may_take}
 use Rattle.interp.proofs.Stepping.{turned, steps_join, steps_used, steps_fuel}
 use Rattle.interp.proofs.Striding.{HasCome, one_turn, fits_one_more}

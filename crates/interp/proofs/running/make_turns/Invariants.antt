@@ -2,7 +2,7 @@ use Rattle.std.proofs.Common.{◌≡◌, ◌-◌}
 use Rattle.interp.specs.declared.turns.Status.TheVariants as status
 use Rattle.interp.specs.Machine.{progress}
 use Rattle.interp.specs.Run.{seen, IsKept}
-use Rattle.interp.specs.Going.{AreSteps}
+use Rattle.interp.specs.Turns.{AreSteps}
 use Rattle.interp.proofs.running.make_turns.Given as goal
 
 abbrev pub invariant-turns : goal.invariant-turns

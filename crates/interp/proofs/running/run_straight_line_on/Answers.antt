@@ -7,7 +7,7 @@ use Rattle.interp_state.specs.ViewLaws.{items_nil, last_of}
 use Rattle.interp_steps.specs.StraightLine.{IsSafeFor}
 use Rattle.interp.specs.Machine.{progress}
 use Rattle.interp.specs.Run.{seen, args_of, IsKept}
-use Rattle.interp.specs.Going.{AreSteps, none}
+use Rattle.interp.specs.Turns.{AreSteps, none}
 use Rattle.interp.proofs.Striding.{HasCome, walked_on, safe_for, unmoved}
 use Rattle.interp.proofs.running.run_straight_line_on.Given as given
 use Rattle.interp.proofs.running.run_straight_line_on.Goals as goal

@@ -1,7 +1,7 @@
 use Rattle.std.proofs.Common.{◌≡◌, ◌<◌, ◌≤◌, ap, arith}
 use Rattle.interp.specs.Machine.{progress}
 use Rattle.interp.specs.Run.{seen}
-use Rattle.interp.specs.Going.{none}
+use Rattle.interp.specs.Turns.{none}
 use Rattle.interp.proofs.Telling.{told_stops}
 use Rattle.interp.proofs.Stepping.{free_of, steps_join, within_of, turned_after, turned_stepped, steps_fuel, stepped_used}
 use Rattle.interp.proofs.running.turn_on.Goals as goal

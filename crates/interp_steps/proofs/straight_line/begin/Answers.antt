@@ -110,8 +110,8 @@ returns-in-Br-clause-ordered g c =
     (br_charged k v safe ordered f.ordinal is label here) c.args.most c.requires.safe c.go_to.result c.go_to.new.parts c.go_to.ensures.branched c.go_to.ensures.within in
     ordered_any b c.go_to.new.parts (walks_ordered k v (view b c.go_to.new.parts) c.go_to.result walked (branched_some p c.go_to.new.parts target c.go_to.result c.go_to.ensures.branched))
 
-pub pushed-requires : goal.pushed-requires
-pushed-requires g c =
+pub pushed_value-requires : goal.pushed_value-requires
+pushed_value-requires g c =
     let k = contract_of c.args.lent.now in
     let p = c.args.parts.now in
     let f = c.in-Some.ensures.first in
@@ -128,8 +128,8 @@ hold-made-requires-clause-ordered g c =
     let some = items_some p.code.now (first_some p.code.now c.in-Some.op.now c.in-Some.rest.now f) in
     let v = view (base_of c.args.lent.now) p in
     let safe = c.requires.safe 0 v c.requires.some (none v) some in
-    let h = subst (λ (ls : List Value). Pushes c.in-Some.op.now ls c.in-Some-pushed.value) c.deref.ensures.value c.in-Some-pushed.ensures.pushed in
-    (pushed_first c.args.lent.now p p.code.now safe (c.requires.ordered (base_of c.args.lent.now)) c.in-Some.op.now c.in-Some.rest.now f c.in-Some-pushed.value h).ordered
+    let h = subst (λ (ls : List Value). Pushes c.in-Some.op.now ls c.in-Some-pushed_value.value) c.deref.ensures.value c.in-Some-pushed_value.ensures.pushed in
+    (pushed_first c.args.lent.now p p.code.now safe (c.requires.ordered (base_of c.args.lent.now)) c.in-Some.op.now c.in-Some.rest.now f c.in-Some-pushed_value.value h).ordered
 
 pub hold-made-requires-clause-safe : goal.hold-made-requires-clause-safe
 hold-made-requires-clause-safe g c =
@@ -139,21 +139,21 @@ hold-made-requires-clause-safe g c =
     let some = items_some p.code.now (first_some p.code.now c.in-Some.op.now c.in-Some.rest.now f) in
     let v = view (base_of c.args.lent.now) p in
     let safe = c.requires.safe 0 v c.requires.some (none v) some in
-    let h = subst (λ (ls : List Value). Pushes c.in-Some.op.now ls c.in-Some-pushed.value) c.deref.ensures.value c.in-Some-pushed.ensures.pushed in
-    let first = pushed_first c.args.lent.now p p.code.now safe (c.requires.ordered (base_of c.args.lent.now)) c.in-Some.op.now c.in-Some.rest.now f c.in-Some-pushed.value h in
+    let h = subst (λ (ls : List Value). Pushes c.in-Some.op.now ls c.in-Some-pushed_value.value) c.deref.ensures.value c.in-Some-pushed_value.ensures.pushed in
+    let first = pushed_first c.args.lent.now p p.code.now safe (c.requires.ordered (base_of c.args.lent.now)) c.in-Some.op.now c.in-Some.rest.now f c.in-Some-pushed_value.value h in
     let le : 1 + (c.args.most - 1) ≤ c.args.most = let lt = c.requires.some in omega (arith, lt) in
     safe_after k v _ c.args.most 1 (c.args.most - 1) c.requires.safe (walks_once k v _ some first) le
 
-pub returns-in-Some-pushed-clause-walked : goal.returns-in-Some-pushed-clause-walked
-returns-in-Some-pushed-clause-walked g c =
+pub returns-in-Some-pushed_value-clause-walked : goal.returns-in-Some-pushed_value-clause-walked
+returns-in-Some-pushed_value-clause-walked g c =
     let k = contract_of c.args.lent.now in
     let p = c.args.parts.now in
     let f = c.in-Some.ensures.first in
     let some = items_some p.code.now (first_some p.code.now c.in-Some.op.now c.in-Some.rest.now f) in
     let v = view (base_of c.args.lent.now) p in
     let safe = c.requires.safe 0 v c.requires.some (none v) some in
-    let h = subst (λ (ls : List Value). Pushes c.in-Some.op.now ls c.in-Some-pushed.value) c.deref.ensures.value c.in-Some-pushed.ensures.pushed in
-    let first = pushed_first c.args.lent.now p p.code.now safe (c.requires.ordered (base_of c.args.lent.now)) c.in-Some.op.now c.in-Some.rest.now f c.in-Some-pushed.value h in
+    let h = subst (λ (ls : List Value). Pushes c.in-Some.op.now ls c.in-Some-pushed_value.value) c.deref.ensures.value c.in-Some-pushed_value.ensures.pushed in
+    let first = pushed_first c.args.lent.now p p.code.now safe (c.requires.ordered (base_of c.args.lent.now)) c.in-Some.op.now c.in-Some.rest.now f c.in-Some-pushed_value.value h in
     walks_join k v _ _ 1 c.hold-made.result.0 (walks_once k v _ some first) c.hold-made.ensures.walked
 
 pub hold-made-requires-in-None-clause-ordered : goal.hold-made-requires-in-None-clause-ordered

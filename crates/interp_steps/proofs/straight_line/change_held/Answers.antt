@@ -13,8 +13,8 @@ use Rattle.interp_steps.proofs.Reaching.{load_place, load_charged}
 use Rattle.interp_steps.proofs.Holding.{may_join, may_change, place_there, done}
 use Rattle.interp_steps.proofs.straight_line.change_held.Goals as goal
 
-pub changed-requires : goal.changed-requires
-changed-requires g c =
+pub unary_result-requires : goal.unary_result-requires
+unary_result-requires g c =
     let p = c.args.parts.now in
     may_change c.args.lent.now p (c.args.held ∷ []) p.code.now c.requires.safe c.requires.ordered c.args.op.now c.args.rest.now c.requires.here p.stack.items c.args.held refl
 
@@ -30,8 +30,8 @@ top-below-requires g c =
     let there = place_there c.args.lent.now p (c.args.held ∷ []) p.code.now c.requires.safe c.requires.ordered c.args.op.now c.args.rest.now c.requires.here two.runs in
     omega (arith, there.0, two.count, length-append p.stack.items (c.args.held ∷ []), p.stack.ok.0)
 
-pub joined-requires : goal.joined-requires
-joined-requires g c =
+pub binary_result-requires : goal.binary_result-requires
+binary_result-requires g c =
     let p = c.args.parts.now in
     may_join c.args.lent.now p (c.args.held ∷ []) p.code.now c.requires.safe c.requires.ordered c.args.op.now c.args.rest.now c.requires.here _ c.top-below.result c.args.held
     (ap (λ (xs : List Value). xs ++ c.args.held ∷ []) c.top-below.ensures ∙ append_assoc _ (c.top-below.result ∷ []) (c.args.held ∷ []))
@@ -60,8 +60,8 @@ returns-in-LocalTee-clause-changed g c =
     done c.args.lent.now p (c.args.held ∷ []) p.code.now c.requires.safe c.requires.ordered c.args.op.now c.args.rest.now c.requires.here (ap runs_on c.in-LocalTee.is) _ _
     (subst (λ (o : PlainInstr). Done o (p.stack.items ++ c.args.held ∷ []) p.locals.items (p.stack.items ++ c.args.held ∷ []) locals) (sym c.in-LocalTee.is) (c.write_local.ensures.tee p.stack.items))
 
-pub loaded-requires : goal.loaded-requires
-loaded-requires g c =
+pub load_value-requires : goal.load_value-requires
+load_value-requires g c =
     let k = contract_of c.args.lent.now in
     let p = c.args.parts.now in
     let v = holding (base_of c.args.lent.now) p c.args.held in

@@ -16,8 +16,8 @@ use Rattle.interp_steps.proofs.straight_line.hold.Goals as goal
 pub held-init : goal.held-init
 held-init g c = record { walked = none _; room = c.requires.room; ordered = c.requires.ordered; counted = c.requires.counted; max = refl; within = omega arith }
 
-pub pushed-requires : goal.pushed-requires
-pushed-requires g c =
+pub pushed_value-requires : goal.pushed_value-requires
+pushed_value-requires g c =
     let p = c.held.parts in
     let f = c.in-Some.ensures.first in
     let some = items_some p.code.now (first_some p.code.now c.in-Some.op.now c.in-Some.rest.now f) in
@@ -35,8 +35,8 @@ join_next-requires-clause-ordered g c =
     let f = c.in-Some.ensures.first in
     let some = items_some p.code.now (first_some p.code.now c.in-Some.op.now c.in-Some.rest.now f) in
     let safe = c.requires.safe c.held.made _ c.held-test.true c.held.invariant.walked some in
-    let h = subst (λ (ls : List Value). Pushes c.in-Some.op.now ls c.in-Some-pushed.second) c.deref.ensures.value c.in-Some-pushed.ensures.pushed in
-    (pushed_over c.args.lent.now p c.held.held p.code.now safe c.held.invariant.ordered c.in-Some.op.now c.in-Some.rest.now f c.in-Some-pushed.second h).ordered
+    let h = subst (λ (ls : List Value). Pushes c.in-Some.op.now ls c.in-Some-pushed_value.second) c.deref.ensures.value c.in-Some-pushed_value.ensures.pushed in
+    (pushed_over c.args.lent.now p c.held.held p.code.now safe c.held.invariant.ordered c.in-Some.op.now c.in-Some.rest.now f c.in-Some-pushed_value.second h).ordered
 
 pub join_next-requires-clause-safe : goal.join_next-requires-clause-safe
 join_next-requires-clause-safe g c lt ne =
@@ -44,8 +44,8 @@ join_next-requires-clause-safe g c lt ne =
     let f = c.in-Some.ensures.first in
     let some = items_some p.code.now (first_some p.code.now c.in-Some.op.now c.in-Some.rest.now f) in
     let safe = c.requires.safe c.held.made _ c.held-test.true c.held.invariant.walked some in
-    let h = subst (λ (ls : List Value). Pushes c.in-Some.op.now ls c.in-Some-pushed.second) c.deref.ensures.value c.in-Some-pushed.ensures.pushed in
-    let over = pushed_over c.args.lent.now p c.held.held p.code.now safe c.held.invariant.ordered c.in-Some.op.now c.in-Some.rest.now f c.in-Some-pushed.second h in
+    let h = subst (λ (ls : List Value). Pushes c.in-Some.op.now ls c.in-Some-pushed_value.second) c.deref.ensures.value c.in-Some-pushed_value.ensures.pushed in
+    let over = pushed_over c.args.lent.now p c.held.held p.code.now safe c.held.invariant.ordered c.in-Some.op.now c.in-Some.rest.now f c.in-Some-pushed_value.second h in
     c.requires.safe (c.held.made + 1) _ (omega (arith, lt)) (one_more _ _ _ _ c.held.invariant.walked some over) (items_some c.in-Some.rest.now ne)
 
 pub held-preserved-in-Some-join_next : goal.held-preserved-in-Some-join_next
@@ -54,8 +54,8 @@ held-preserved-in-Some-join_next g c =
     let f = c.in-Some.ensures.first in
     let some = items_some p.code.now (first_some p.code.now c.in-Some.op.now c.in-Some.rest.now f) in
     let safe = c.requires.safe c.held.made _ c.held-test.true c.held.invariant.walked some in
-    let h = subst (λ (ls : List Value). Pushes c.in-Some.op.now ls c.in-Some-pushed.second) c.deref.ensures.value c.in-Some-pushed.ensures.pushed in
-    let over = pushed_over c.args.lent.now p c.held.held p.code.now safe c.held.invariant.ordered c.in-Some.op.now c.in-Some.rest.now f c.in-Some-pushed.second h in
+    let h = subst (λ (ls : List Value). Pushes c.in-Some.op.now ls c.in-Some-pushed_value.second) c.deref.ensures.value c.in-Some-pushed_value.ensures.pushed in
+    let over = pushed_over c.args.lent.now p c.held.held p.code.now safe c.held.invariant.ordered c.in-Some.op.now c.in-Some.rest.now f c.in-Some-pushed_value.second h in
     let j = c.in-Some-join_next.ensures in
     let lt = j.two.0 in
     let two : (c.held.made + 1) + 1 ≡ c.held.made + 2 = omega arith in
@@ -75,9 +75,9 @@ held-preserved-in-None-join_next g c =
     let f = c.in-Some.ensures.first in
     let some = items_some p.code.now (first_some p.code.now c.in-Some.op.now c.in-Some.rest.now f) in
     let safe = c.requires.safe c.held.made _ c.held-test.true c.held.invariant.walked some in
-    let h = subst (λ (ls : List Value). Pushes c.in-Some.op.now ls c.in-Some-pushed.second) c.deref.ensures.value c.in-Some-pushed.ensures.pushed in
-    let onto = subst (λ (s : List Value). Charged (contract_of c.args.lent.now) (holding (base_of c.args.lent.now) p c.held.held) (mk (based (base_of c.args.lent.now) p.instance) (opens_of p.entries.items) (s ++ c.in-Some-pushed.second ∷ []) p.locals.items (items_of c.in-Some.rest.now)))
-    (sym c.push_reserved.ensures.items) (pushed_onto c.args.lent.now p c.held.held p.code.now safe c.held.invariant.ordered c.in-Some.op.now c.in-Some.rest.now f c.in-Some-pushed.second h) in
+    let h = subst (λ (ls : List Value). Pushes c.in-Some.op.now ls c.in-Some-pushed_value.second) c.deref.ensures.value c.in-Some-pushed_value.ensures.pushed in
+    let onto = subst (λ (s : List Value). Charged (contract_of c.args.lent.now) (holding (base_of c.args.lent.now) p c.held.held) (mk (based (base_of c.args.lent.now) p.instance) (opens_of p.entries.items) (s ++ c.in-Some-pushed_value.second ∷ []) p.locals.items (items_of c.in-Some.rest.now)))
+    (sym c.push_reserved.ensures.items) (pushed_onto c.args.lent.now p c.held.held p.code.now safe c.held.invariant.ordered c.in-Some.op.now c.in-Some.rest.now f c.in-Some-pushed_value.second h) in
     record {
       walked = one_more _ _ _ _ c.held.invariant.walked some onto;
       room = omega (arith, c.push_reserved.ensures.len, c.push_reserved.ensures.capacity, c.len.ensures, c.capacity.ensures, c.if-len-capacity.false);

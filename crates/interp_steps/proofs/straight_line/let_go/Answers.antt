@@ -105,8 +105,8 @@ top-place-requires g c =
     let there = store_place k v safe c.requires.ordered n is c.in-Store.operator c.in-Store.field-1 c.in-Store.offset here in
     omega (arith, there.0, length-append p.stack.items (c.args.held ∷ []), p.stack.ok.0)
 
-pub stored-requires : goal.stored-requires
-stored-requires g c =
+pub store_value-requires : goal.store_value-requires
+store_value-requires g c =
     let k = contract_of c.args.lent.now in
     let p = c.args.parts.now in
     let v = holding (base_of c.args.lent.now) p c.args.held in

@@ -2,7 +2,7 @@ use Rattle.std.proofs.Common.{All, IfSome, length}
 use Rattle.spec_ledger.specs.declared.Version.TheVariants.{Two}
 use Rattle.interp.specs.Callee.{setting_view}
 use Rattle.publish.specs.Adoption.{AreMade}
-use Rattle.book_workers.specs.Handed.{IsCommitted}
+use Rattle.book_workers.specs.CommittedRuns.{IsCommitted}
 use Rattle.miner.proofs.outcome.apart.Given as goal
 
 abbrev pub invariant-loop-place : goal.invariant-loop-place

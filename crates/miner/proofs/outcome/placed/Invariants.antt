@@ -1,7 +1,7 @@
 use Rattle.std.proofs.Common.{◌≡◌, All, IfSome, length}
 use Rattle.spec_ledger.specs.declared.Version.TheVariants.{Two}
 use Rattle.interp.specs.Callee.{setting_view}
-use Rattle.book_workers.specs.Handed.{AreAllRuns, IsCommitted}
+use Rattle.book_workers.specs.CommittedRuns.{AreAllRuns, IsCommitted}
 use Rattle.miner.proofs.outcome.placed.Given as goal
 
 abbrev pub invariant-loop-run : goal.invariant-loop-run

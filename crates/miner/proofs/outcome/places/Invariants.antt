@@ -1,7 +1,7 @@
 use Rattle.std.proofs.Common.{All, IfSome}
 use Rattle.spec_ledger.specs.declared.Version.TheVariants.{Two}
 use Rattle.interp.specs.Callee.{setting_view}
-use Rattle.book_workers.specs.Handed.{IsCommitted}
+use Rattle.book_workers.specs.CommittedRuns.{IsCommitted}
 use Rattle.miner.proofs.outcome.places.Given as goal
 
 abbrev pub invariant-loop : goal.invariant-loop

@@ -13,10 +13,10 @@ use Rattle.miner.proofs.sealing.build_block_by.Goals as goal
 
 pub new-next-requires : goal.new-next-requires
 new-next-requires g c =
-    let copies = c.in_ok-copied.field-0.items in
+    let copies = c.in_ok-copy_contracts.field-0.items in
     let lent = c.contracts.result.now in
-    let many : length copies ≡ length lent = sym (length-map copies contract_view) ∙ (ap length c.in_ok-copied.ensures ∙ length-map lent contract_view) in
-    omega (arith, many, c.in_ok-copied.field-0.ok.0, c.contracts.ensures.few)
+    let many : length copies ≡ length lent = sym (length-map copies contract_view) ∙ (ap length c.in_ok-copy_contracts.ensures ∙ length-map lent contract_view) in
+    omega (arith, many, c.in_ok-copy_contracts.field-0.ok.0, c.contracts.ensures.few)
 
 pub digests_and_parts-requires-clause-possible : goal.digests_and_parts-requires-clause-possible
 digests_and_parts-requires-clause-possible g c κs within = subst (λ (rs : List Receipt). ArePossible rs) (sym c.deref.ensures.value) c.requires.possible
@@ -31,7 +31,7 @@ unreachable-requires g c =
 pub returns-clause-block : goal.returns-clause-block
 returns-clause-block g c =
     let next : world_view c.new-next.result ≡ world_after (world_view c.args.world.now) c.args.core.cells.cells =
-    λ k. record { contracts = (c.new-next.ensures.contracts ∙ (c.in_ok-copied.ensures ∙ c.contracts.ensures.contracts)) k; cells = c.new-next.ensures.cells k } in
+    λ k. record { contracts = (c.new-next.ensures.contracts ∙ (c.in_ok-copy_contracts.ensures ∙ c.contracts.ensures.contracts)) k; cells = c.new-next.ensures.cells k } in
     let made = c.in_ok-digests.ensures.positions ∙ (λ k. positions c.args.order.now (results_of (c.deref.ensures.value k) (c.deref-2.ensures.value k))) in
     let after = c.in_ok-digests.ensures.after ∙ ap (λ (w : World). sha256 (world_bytes w)) next in
     c.in-Some.ensures.is ∙ (λ k. record { version = c.args.version; before = c.in_ok-digests.ensures.before k; calls = c.in_ok-digests.ensures.calls k; positions = made k; fuel = c.requires.fuel k; after = after k })

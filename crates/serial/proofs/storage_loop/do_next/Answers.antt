@@ -1,5 +1,5 @@
 use Rattle.std.proofs.Common.{IfSome, subst}
-use Rattle.serial.specs.Going.{HasComeTo}
+use Rattle.serial.specs.MachineProgress.{HasComeTo}
 use Rattle.serial.specs.Over.{AreSomeLeft}
 use Rattle.serial.proofs.Ending.{on_err}
 use Rattle.serial.proofs.Meeting.{asked_on, entered_on, left_on, goes_on_asked, goes_on_entered, goes_on_left}

@@ -1,4 +1,4 @@
-use Rattle.serial.proofs.Going.{asked_for, entered, left, has_ended, has_lacked}
+use Rattle.serial.proofs.MachineProgress.{asked_for, entered, left, has_ended, has_lacked}
 use Rattle.serial.proofs.turn_loop.next_request.Goals as goal
 
 pub returns-in-Host-clause-asks : goal.returns-in-Host-clause-asks

@@ -1,7 +1,7 @@
 use Rattle.std.proofs.Common.{◌<◌, ◌∙◌, IfOk, get_or, length, sym, subst}
 use Rattle.std.proofs.lemmas.List.Elements.{All-get_or}
 use Rattle.std.proofs.lemmas.Option.{slice_get-get_or, same_Some}
-use Rattle.validator.specs.Handed.{IsRunIn}
+use Rattle.validator.specs.PositionRuns.{IsRunIn}
 use Rattle.validator.proofs.attempt.attempt.Goals as goal
 
 pub play-played-requires-after_bounds : goal.play-played-requires-after_bounds

@@ -1,4 +1,4 @@
-use Rattle.validator.specs.Handed.{AreFound}
+use Rattle.validator.specs.PositionRuns.{AreFound}
 use Rattle.validator.proofs.workers.no_runs.Given as goal
 
 abbrev pub invariant-loop-number : goal.invariant-loop-number

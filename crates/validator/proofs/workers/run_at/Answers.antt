@@ -1,5 +1,5 @@
 use Rattle.std.proofs.Common.{◌≡◌, subst, arith}
-use Rattle.validator.specs.Handed.{IsRunAt}
+use Rattle.validator.specs.PositionRuns.{IsRunAt}
 use Rattle.validator.proofs.workers.run_at.Goals as goal
 
 pub returns : goal.returns

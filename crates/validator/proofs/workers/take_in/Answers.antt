@@ -1,7 +1,7 @@
 use Rattle.std.proofs.Common.{IfSome, IfOk, subst}
 use Rattle.std.proofs.lemmas.List.Elements.{All-pop}
 use Rattle.std.proofs.lemmas.Result.{IfOk-at_ok}
-use Rattle.validator.specs.Handed.{AreMade}
+use Rattle.validator.specs.PositionRuns.{AreMade}
 use Rattle.validator.proofs.workers.take_in.Goals as goal
 
 pub take_part-requires-clause-part : goal.take_part-requires-clause-part

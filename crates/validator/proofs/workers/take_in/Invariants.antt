@@ -1,5 +1,5 @@
 use Rattle.std.proofs.Common.{length}
-use Rattle.validator.specs.Handed.{AreFound, ArePartsMade}
+use Rattle.validator.specs.PositionRuns.{AreFound, ArePartsMade}
 use Rattle.validator.proofs.workers.take_in.Given as goal
 
 abbrev pub invariant-loop-part : goal.invariant-loop-part

@@ -1,6 +1,6 @@
 use Rattle.std.proofs.Common.{IfSome, subst}
 use Rattle.std.proofs.lemmas.List.Elements.{All-pop}
-use Rattle.validator.specs.Handed.{IsMade}
+use Rattle.validator.specs.PositionRuns.{IsMade}
 use Rattle.validator.proofs.workers.take_part.Goals as goal
 
 pub note-requires-clause-made : goal.note-requires-clause-made

@@ -1,5 +1,5 @@
 use Rattle.std.proofs.Common.{length}
-use Rattle.validator.specs.Handed.{AreFound, AreMade}
+use Rattle.validator.specs.PositionRuns.{AreFound, AreMade}
 use Rattle.validator.proofs.workers.take_part.Given as goal
 
 abbrev pub invariant-loop-made : goal.invariant-loop-made

@@ -1,5 +1,5 @@
 use Rattle.std.proofs.Common.{◌≡◌, IfSome, sym, subst}
-use Rattle.validator.specs.Handed.{AreMade, IsMade}
+use Rattle.validator.specs.PositionRuns.{AreMade, IsMade}
 use Rattle.validator.proofs.Runs.{one_more_made}
 use Rattle.validator.proofs.workers.work_on.Goals as goal
 use Rattle.validator.proofs.workers.work_on.Goals.{in-Some+in_ok-push, in_default}

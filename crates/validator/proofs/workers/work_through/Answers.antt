@@ -1,5 +1,5 @@
 use Rattle.std.proofs.Common.{◌≡◌, sym, subst}
-use Rattle.validator.specs.Handed.{AreMade}
+use Rattle.validator.specs.PositionRuns.{AreMade}
 use Rattle.validator.proofs.workers.work_through.Goals as goal
 use Rattle.validator.proofs.workers.work_through.Goals.{in-None, in-Some+then-is_over, in-Some+else-is_over+in-Some-find+in_ok-work_on-in-Some-find+then-branch}
 

@@ -1,4 +1,4 @@
-use Rattle.validator.specs.Handed.{AreMade}
+use Rattle.validator.specs.PositionRuns.{AreMade}
 use Rattle.validator.proofs.workers.work_through.Given as goal
 
 abbrev pub invariant-loop : goal.invariant-loop

@@ -10,7 +10,7 @@ behind_world : (words : List (List ℕ)) (w v : List ℕ) (s t : List (List ℕ)
 behind_world words w v s t first second = cc
 
 pub returns-in_default : goal.returns-in_default
-returns-in_default c = λ asked a. MatchOption-at_none _ _ c.in_default.is c.switch_alone.ensures asked.json a.json
+returns-in_default c = λ asked a. MatchOption-at_none _ _ c.in_default.is c.in_ok-style.ensures asked.style a.style
 
 pub returns-in_default-2 : goal.returns-in_default-2
 returns-in_default-2 c = λ asked a.

@@ -6,7 +6,7 @@ use Rattle.wblock_call.proofs.FlatEffects.{effects_flat}
 use Rattle.wblock_call.proofs.effects_json.effects_line_of.Goals as goal
 
 pub value_line-requires : goal.value_line-requires
-value_line-requires c = subst (IsFlat 127) (sym c.in_ok-value.ensures) (effects_flat _ _ _)
+value_line-requires c = subst (IsFlat 127) (sym c.in_ok-value.ensures) (effects_flat _ _ _ _)
 
 pub returns : goal.returns
 returns c =

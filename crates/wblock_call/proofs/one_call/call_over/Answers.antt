@@ -30,7 +30,7 @@ returns c =
       told = record {
         status_is = search rules;
         writes = search rules;
-        text_is = subst (λ (cells : Cells). TellsEffects c.args.json (record { receipt = receipt; touched = touched }) cells later (string_bytes c.in_ok-text.text)) c.cells-before.ensures c.in_ok-text.ensures;
+        text_is = subst (λ (cells : Cells). TellsEffects c.args.style.json c.args.style.signed (record { receipt = receipt; touched = touched }) cells later (string_bytes c.in_ok-text.text)) c.cells-before.ensures c.in_ok-text.ensures;
       };
       others = λ lock none. untouched world.cells later touched lock (law.left (setting_of Two world) call world.cells later receipt touched are executes) (law.kept world.cells later world.cells touched lock) none;
     }

@@ -12,7 +12,7 @@ pub returns-in-Refused-clause-answers : goal.returns-in-Refused-clause-answers
 returns-in-Refused-clause-answers g c = IfOk-weaker c.refuse.result _ _ (λ a told t. inl (record {
   line = string_bytes c.in-Refused.line;
   why = subst (λ found. GivesWorld (g.F.Files.holds c.args.files.now) c.args.task.now.world.now found) c.in-Refused.is (c.in_ok-world.ensures.gives t);
-  told = of_answer c.args.task.now.json (string_bytes c.in-Refused.line) a told;
+  told = of_answer c.args.task.now.style.json (string_bytes c.in-Refused.line) a told;
 })) c.refuse.ensures.told
 
 -- a refusal is told without a file

@@ -1,5 +1,5 @@
 use Rattle.std.proofs.Common.{◌≡◌, List, ℕ, rules, string_bytes, subst}
-use Rattle.wblock_line.specs.Told.{IsRefusalIn}
+use Rattle.wblock_line.specs.Forms.{IsRefusalIn}
 use Rattle.wblock_debug.specs.Lines.{left_line}
 use Rattle.wblock_debug.proofs.debug.absent.Goals as goal
 

@@ -7,5 +7,5 @@ pub loop-command-init : goal.loop-command-init
 loop-command-init c =
     let empty : string_bytes c.new.result ≡ [] = search rules in
     let none : take 0 c.args.commands.now ≡ [] = search rules in
-    subst (λ (commands : List Command). IsPrinted c.args.json c.args.session.now commands c.args.session.now false (string_bytes c.new.result)) (sym none)
-    (subst (λ (text : List ℕ). IsPrinted c.args.json c.args.session.now [] c.args.session.now false text) (sym empty) nothing)
+    subst (λ (commands : List Command). IsPrinted c.args.style c.args.session.now commands c.args.session.now false (string_bytes c.new.result)) (sym none)
+    (subst (λ (text : List ℕ). IsPrinted c.args.style c.args.session.now [] c.args.session.now false text) (sym empty) nothing)

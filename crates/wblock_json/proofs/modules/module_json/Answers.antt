@@ -1,13 +1,19 @@
-use Rattle.std.proofs.Common.{string_bytes, subst, sym}
-use Rattle.std.proofs.lemmas.Result.{IfOk-weaker}
-use Rattle.serde_json.specs.Data.{Data}
-use Rattle.wblock_json.specs.Json.{IsFlat, IsJson}
-use Rattle.wblock_json.proofs.FlatModules.{module_flat}
+use Rattle.std.proofs.Common.{List, length, string_bytes, subst}
+use Rattle.module_tree.specs.Modules.{module_view}
+use Rattle.wblock_words.specs.declared.function_names.FunctionName.{FunctionName}
+use Rattle.wblock_words.specs.Names.{names_in}
+use Rattle.wblock_json.specs.Json.{IsJson}
+use Rattle.wblock_json.specs.Modules.{module_data}
 use Rattle.wblock_json.proofs.modules.module_json.Goals as goal
-
-pub text_of-requires : goal.text_of-requires
-text_of-requires c = subst (IsFlat 127) (sym c.in_ok-value.ensures) (module_flat _ _)
 
 pub returns : goal.returns
 returns c =
-    IfOk-weaker c.text_of.result _ _ (λ text h. subst (λ (d : Data). IsJson d (string_bytes text)) c.in_ok-value.ensures h) c.text_of.ensures
+    record {
+      names = names_in c.in_ok-names.names.items;
+      carried = c.in_ok-names.ensures.carried;
+      text_is =
+          subst
+          (λ (names : List FunctionName). IsJson (module_data (length c.args.bytes.now) (names_in names) (module_view c.args.tree.now)) (string_bytes c.in_ok-text.text))
+          c.deref.ensures.value
+          c.in_ok-text.ensures;
+    }

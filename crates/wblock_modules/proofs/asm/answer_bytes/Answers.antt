@@ -1,4 +1,4 @@
-use Rattle.wblock_modules.proofs.Told.{bad_token}
+use Rattle.wblock_modules.proofs.BadTokens.{bad_token}
 use Rattle.wblock_modules.proofs.asm.answer_bytes.Goals as goal
 
 pub returns-in-Ok-place_of_fault-clause-answer : goal.returns-in-Ok-place_of_fault-clause-answer

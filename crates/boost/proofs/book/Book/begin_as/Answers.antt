@@ -3,7 +3,7 @@ use Rattle.std.proofs.lemmas.Grind.{get_or_default_zero}
 use Rattle.spec_ledger.specs.Book.{Content, call_is_new}
 use Rattle.spec_ledger.specs.Events.{HasNoAttempt}
 use Rattle.boost.specs.declared.standing.CallState.TheVariants.{Live}
-use Rattle.boost.specs.Kept.{IsBook}
+use Rattle.boost.specs.BookInvariant.{IsBook}
 use Rattle.boost.specs.Numbered.{BegunAs, IsPassed}
 use Rattle.boost.proofs.Room.{no_room, succeeded}
 use Rattle.boost.proofs.Events.{idle_before, live_before, live_new, committed_before, committed_alone, standing_below}

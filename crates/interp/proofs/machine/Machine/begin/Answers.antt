@@ -10,7 +10,7 @@ use Rattle.interp.specs.Callee.{setting_view}
 use Rattle.interp.specs.Run.{seen, levels_of, AreAround}
 use Rattle.interp.proofs.Beginning.{based_fresh, safe_of, all_linked, contract_same, at_number, nothing_view, nothing_counted}
 use Rattle.interp.proofs.Fresh.{is_first, is_start}
-use Rattle.interp.proofs.Going.{progress_of}
+use Rattle.interp.proofs.Progress.{progress_of}
 use Rattle.interp.proofs.Opened.{opened_entry}
 use Rattle.interp.proofs.machine.Machine.begin.Goals as goal
 

@@ -1,5 +1,5 @@
 use Rattle.interp.specs.Run.{seen}
-use Rattle.interp.proofs.Going.{progress_of}
+use Rattle.interp.proofs.Progress.{progress_of}
 use Rattle.interp.proofs.machine.Machine.next.Goals as goal
 
 pub returns-clause-on_run : goal.returns-clause-on_run
