@@ -14,7 +14,7 @@ use Rattle.spec_ledger.proofs.Maps.{get-set_at, is_key, key_itself, lock_cmp_tot
 use Rattle.spec_ledger.proofs.Ops.{goes_cases}
 use Rattle.spec_ledger.proofs.Kept.{All-without, All-at, All-with}
 use Rattle.abstract_locks.specs.declared.sharing.Shared.{Shared}
-use Rattle.abstract_locks.specs.Held.{held_once, holders_of, AllHold, IsShared, Sharings, AreShared, count_in, MayJoin, HasHolder, this_many, one_less}
+use Rattle.abstract_locks.specs.HeldLocks.{held_once, holders_of, AllHold, IsShared, Sharings, AreShared, count_in, MayJoin, HasHolder, this_many, one_less}
 
 abbrev Holds : Lock → Mode → Modes → Type 0
 Holds l mode m = (get m l ≡ None) ⊎ (get m l ≡ Some mode)

@@ -5,7 +5,7 @@ ghost use Rattle.std.specs.Prelude.{◌≡◌, ◌+◌, ◌-◌, ◌<◌, ◌≤
 ghost use Rattle.std.specs.FinMap as finite;
 ghost use Rattle.spec_ledger.specs.Modes.{join, join_held};
 ghost use Rattle.abstract_locks.specs.Table.{AllShare, asked, others, row_at};
-ghost use Rattle.abstract_locks.specs.Held.{MayJoin, count_in, held_once};
+ghost use Rattle.abstract_locks.specs.HeldLocks.{MayJoin, count_in, held_once};
 
 mod holder;
 mod holders;
@@ -85,7 +85,7 @@ impl<A: Allocator> Model for Table<A> {
     ghost use Rattle.std.specs.Coded.{coded_list};
     ghost use Rattle.spec_ledger.specs.Modes.{Modes as TheModes};
     ghost use Rattle.spec_ledger.specs.Codes.{coded_modes};
-    ghost use Rattle.abstract_locks.specs.Held.{AreShared};
+    ghost use Rattle.abstract_locks.specs.HeldLocks.{AreShared};
 
     ghost Value = { List TheModes };
 

@@ -3,7 +3,7 @@ ghost use Rattle.std.specs.Prelude.{◌≡◌, ℕ, ◌<◌, ◌∷◌, ◌++◌
 ghost use Rattle.std.specs.FinMap as finite;
 ghost use Rattle.spec_ledger.specs.Cells.{set_at};
 ghost use Rattle.spec_ledger.specs.Modes.{Modes};
-ghost use Rattle.abstract_locks.specs.Held.{AreShared, HasHolder, one_less};
+ghost use Rattle.abstract_locks.specs.HeldLocks.{AreShared, HasHolder, one_less};
 
 use crate::holder::Holder;
 use spec_ledger::Mode;
@@ -27,7 +27,7 @@ pub(crate) struct Sharing<A: Allocator = Global> {
 
 impl<A: Allocator> Model for Sharing<A> {
     ghost use Rattle.std.specs.FinMap.{from_entries};
-    ghost use Rattle.abstract_locks.specs.Held.{Sharings, coded_sharings};
+    ghost use Rattle.abstract_locks.specs.HeldLocks.{Sharings, coded_sharings};
 
     ghost Value = { Sharings };
 

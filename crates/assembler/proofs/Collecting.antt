@@ -8,13 +8,13 @@ use Rattle.std.proofs.lemmas.List.{drop-map, drop_more}
 use Rattle.std.proofs.lemmas.List.Folds.{list_all-append}
 use Rattle.spec_modules.specs.Syntax as S
 use Rattle.spec_modules.specs.Limits.{both, first, second, limits_fit, import_fits, global_fits, export_fits, element_fits, data_fits}
-use Rattle.spec_text.specs.Named as N
+use Rattle.spec_text.specs.FieldsOfBytes as N
 use Rattle.spec_text.specs.Spaces.{Spaces}
 use Rattle.spec_text.specs.Fields.{count_imported}
 use Rattle.text_resolve.specs.Types.{is_empty}
 use Rattle.text_fields.specs.Parts.{FieldPart, NoPart, ImportPart, FuncPart, TablePart, MemoryPart, GlobalPart, ExportPart, StartPart, ElementPart, DataPart, part_at, part_fits, body_fits}
-use Rattle.assembler.specs.Made.{only_types, put_in, next_func, make_at}
-use Rattle.assembler.specs.Counted.{defined_funcs, count_defined, count_funcs}
+use Rattle.assembler.specs.ModuleParts.{only_types, put_in, next_func, make_at}
+use Rattle.assembler.specs.FunctionCounts.{defined_funcs, count_defined, count_funcs}
 use Rattle.assembler.specs.PartsView.{with_types, AreInRange}
 
 -- ---- numbers of functions

@@ -2,8 +2,8 @@
 use Rattle.std.proofs.Common.{◌≡◌, ℕ, ◌+◌, ◌<◌, ◌≤◌, List, ◌∷◌, length, get_or, drop, map, sym, ap, ◌∙◌, arith}
 use Rattle.std.proofs.lemmas.List.{drop_more}
 use Rattle.std.proofs.Math.ListN.{drop_of_length-le}
-use Rattle.spec_text.specs.Named as N
-use Rattle.assembler.specs.Counted.{has_func, count_funcs}
+use Rattle.spec_text.specs.FieldsOfBytes as N
+use Rattle.assembler.specs.FunctionCounts.{has_func, count_funcs}
 
 -- as far as a loop has come
 pub count_more : {X : Type 0} (f : X → N.Field) (xs : List X) (i : ℕ) (x : X) (n k whole : ℕ) → i < length xs → x ≡ get_or xs i x → n + count_funcs (map f (drop i xs)) ≡ whole → k ≡ has_func (f x)

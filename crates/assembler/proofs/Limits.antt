@@ -10,7 +10,7 @@ use Rattle.spec_modules.specs.Limits.{both, first, second, is_u32, expression_fi
 use Rattle.spec_modules.specs.Shortest.{shortest}
 use Rattle.spec_modules.specs.Spells.{FuncFits, ModuleFits}
 use Rattle.text_fields.specs.Parts.{body_fits}
-use Rattle.assembler.specs.Made.{ExpressionsFit}
+use Rattle.assembler.specs.ModuleParts.{ExpressionsFit}
 use Rattle.assembler.specs.PartsView.{AreInRange}
 
 -- ---- what is judged is within the limits

@@ -6,7 +6,7 @@ use Rattle.std.proofs.lemmas.Bool.{cond-true}
 use Rattle.std.proofs.lemmas.List.Elements.{All-head, All-tail, All-cons}
 use Rattle.spec_modules.specs.Syntax as S
 use Rattle.spec_modules.specs.Spells.{ExpressionFits}
-use Rattle.spec_text.specs.Named as N
+use Rattle.spec_text.specs.FieldsOfBytes as N
 use Rattle.spec_text.specs.Spaces.{Names, Spaces, AreDistinct}
 use Rattle.spec_text.specs.TypeUses.{names_of, types_of, Uses, inline, alone, again, written_type}
 use Rattle.spec_text.specs.Instructions.{Body}
@@ -20,7 +20,7 @@ use Rattle.text_resolve.specs.Types.{use_at, is_empty}
 use Rattle.text_resolve.proofs.Plains.{use_is_read, read_use}
 use Rattle.text_fields.specs.Parts.{FieldPart, NoPart, ImportPart, FuncPart, TablePart, MemoryPart, GlobalPart, ExportPart, StartPart, ElementPart, DataPart, expression_at, distinct_at, unnamed, names_at, limits, to_maximum, bounds_at, desc_at, kind_at, exported, func_with, func_at, element_with, element_at, data_with, data_at, part_at}
 use Rattle.text_fields.proofs.Parting.{expression_found, found_expression, distinct_found, found_distinct}
-use Rattle.assembler.specs.Made.{only_types, unless_imports, put_in, next_func, make_at, ExpressionsFit, ReadingIsExact, ModulesAreOne}
+use Rattle.assembler.specs.ModuleParts.{only_types, unless_imports, put_in, next_func, make_at, ExpressionsFit, ReadingIsExact, ModulesAreOne}
 
 -- ---- expressions within the limits
 

@@ -5,24 +5,24 @@ use Rattle.spec_modules.specs.Syntax as S
 use Rattle.spec_modules.specs.Profile.{byte_limit}
 use Rattle.spec_modules.specs.Spells.{ModuleFits}
 use Rattle.spec_text.specs.Lexical.{Token, Lexes, LexesToOne}
-use Rattle.spec_text.specs.Named as N
-use Rattle.spec_text.specs.Placed as P
+use Rattle.spec_text.specs.FieldsOfBytes as N
+use Rattle.spec_text.specs.FieldsOfPlaces as P
 use Rattle.spec_text.specs.Spaces.{Spaces}
 use Rattle.spec_text.specs.Fields.{AreSpaces, Resolves, count_imported}
 use Rattle.spec_text.specs.Names.{Names}
 use Rattle.text_resolve.specs.Outcome as inner
-use Rattle.text_resolve.specs.Refused.{Unless}
+use Rattle.text_resolve.specs.Refusals.{Unless}
 use Rattle.text_resolve.specs.declared.refusal.ResolveFault.{ResolveFault}
 use Rattle.text_resolve.specs.declared.refusal.ResolveFault.TheVariants as unresolved
 use Rattle.text_resolve.specs.declared.refusal.AsmRefusal.{AsmRefusal}
 use Rattle.text_resolve.specs.declared.refusal.AsmRefusal.TheVariants.{Lex, Unexpected, UnknownName, RepeatedName, NumberRange, TooLarge, NoMemory}
 use Rattle.text_tree.specs.Texts.{IsText, NoText, TextsAreOne}
-use Rattle.text_fields.specs.Listed.{NoSpaces, SpacesAreOne}
-use Rattle.assembler.specs.Made.{make_at, ExpressionsFit, ReadingIsExact}
+use Rattle.text_fields.specs.NameLists.{NoSpaces, SpacesAreOne}
+use Rattle.assembler.specs.ModuleParts.{make_at, ExpressionsFit, ReadingIsExact}
 use Rattle.assembler.proofs.Ordered.{made_in_order}
 use Rattle.assembler.proofs.Unplaced.{order_kept}
 use Rattle.assembler.specs.OfFields.{IsOfFields}
-use Rattle.assembler.specs.Named.{HasFields, NamesNothing, LexesToNothing, ResolveToNothing, MakesNothing, IsWhy}
+use Rattle.assembler.specs.NamedModules.{HasFields, NamesNothing, LexesToNothing, ResolveToNothing, MakesNothing, IsWhy}
 
 -- ---- tokens and fields
 

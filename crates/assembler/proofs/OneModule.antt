@@ -3,13 +3,13 @@ use Rattle.std.proofs.Common.{◌≡◌, List, sym, ◌∙◌, subst}
 use Rattle.spec_modules.specs.Syntax as S
 use Rattle.spec_modules.specs.Spells.{ModuleFits}
 use Rattle.spec_text.specs.Lexical.{LexesToOne}
-use Rattle.spec_text.specs.Placed as P
+use Rattle.spec_text.specs.FieldsOfPlaces as P
 use Rattle.spec_text.specs.Spaces.{Spaces}
 use Rattle.spec_text.specs.Fields.{AreSpaces, Makes, count_imported}
 use Rattle.spec_text.specs.Names.{NamesOne}
 use Rattle.text_tree.specs.Texts.{IsText, TextsAreOne}
-use Rattle.text_fields.specs.Listed.{SpacesAreOne}
-use Rattle.assembler.specs.Made.{ExpressionsFit, ModulesAreOne}
+use Rattle.text_fields.specs.NameLists.{SpacesAreOne}
+use Rattle.assembler.specs.ModuleParts.{ExpressionsFit, ModulesAreOne}
 use Rattle.assembler.proofs.Ordered.{made_in_order}
 use Rattle.assembler.proofs.Unplaced.{order_kept}
 

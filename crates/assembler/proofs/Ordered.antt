@@ -3,7 +3,7 @@ use Rattle.std.proofs.Common.{◌≡◌, ℕ, true, List, [], None, refl, sym}
 use Rattle.std.proofs.lemmas.Option.{none-some}
 use Rattle.spec_modules.specs.Syntax as S
 use Rattle.spec_modules.specs.Limits.{both}
-use Rattle.spec_text.specs.Named as N
+use Rattle.spec_text.specs.FieldsOfBytes as N
 use Rattle.spec_text.specs.Spaces.{Spaces}
 use Rattle.spec_text.specs.Fields.{Makes}
 use Rattle.text_tree.specs.Order.{is_import, is_start, none, imports_first, one_start, in_order}

@@ -6,14 +6,14 @@ use Rattle.spec_modules.specs.Profile.{byte_limit}
 use Rattle.spec_modules.specs.Limits.{module_fits}
 use Rattle.spec_modules.specs.Shortest.{shortest}
 use Rattle.spec_modules.specs.Spells.{ModuleFits}
-use Rattle.spec_text.specs.Named as N
+use Rattle.spec_text.specs.FieldsOfBytes as N
 use Rattle.spec_text.specs.Spaces.{Spaces}
 use Rattle.spec_text.specs.Fields.{AreSpaces, Resolves, count_imported}
-use Rattle.text_fields.specs.Listed.{SpacesAreOne}
-use Rattle.assembler.specs.Made.{make_at, ExpressionsFit, ReadingIsExact}
+use Rattle.text_fields.specs.NameLists.{SpacesAreOne}
+use Rattle.assembler.specs.ModuleParts.{make_at, ExpressionsFit, ReadingIsExact}
 use Rattle.assembler.specs.PartsView.{with_types, AreInRange}
 use Rattle.assembler.specs.ListsView.{IsTooLarge}
-use Rattle.assembler.specs.Named.{ResolveToNothing}
+use Rattle.assembler.specs.NamedModules.{ResolveToNothing}
 use Rattle.assembler.proofs.Limits.{is_within, is_judged, is_short}
 use Rattle.assembler.proofs.Naming.{resolved, made_fits, made}
 

@@ -4,8 +4,8 @@ use Rattle.std.specs.Prelude.{option_map, string_bytes, ◌&&◌}
 use Rattle.spec_text.specs.Forms as F
 use Rattle.spec_text.specs.Forms.{index_by, binding_by, use_by, flat_by, bounds_by, desc_by, field_by}
 use Rattle.spec_text.specs.Words.{Placed}
-use Rattle.spec_text.specs.Placed as P
-use Rattle.spec_text.specs.Named as N
+use Rattle.spec_text.specs.FieldsOfPlaces as P
+use Rattle.spec_text.specs.FieldsOfBytes as N
 use Rattle.lexer.specs.declared.word.Piece.{Piece}
 use Rattle.text_body.specs.declared.flat.Index.{Index}
 use Rattle.text_body.specs.declared.flat.Index.TheVariants as index

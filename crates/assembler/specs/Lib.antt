@@ -1,6 +1,6 @@
-pub mod Counted
-pub mod Made
-pub mod Named
+pub mod FunctionCounts
+pub mod ModuleParts
+pub mod NamedModules
 pub mod PartsView
 pub mod OfFields
 pub mod ListsView

@@ -6,9 +6,9 @@ ghost use Rattle.text_tree.specs.Views.{field_of, fields_of};
 ghost use Rattle.text_resolve.specs.Outcome.{Gives};
 ghost use Rattle.text_resolve.specs.declared.refusal.ResolveFault.TheVariants.{NoMemory};
 ghost use Rattle.text_resolve.specs.Views.{spaces_of};
-ghost use Rattle.assembler.specs.Made.{only_types, make_at};
+ghost use Rattle.assembler.specs.ModuleParts.{only_types, make_at};
 ghost use Rattle.assembler.specs.PartsView.{parts_view, with_types, are_parts_numbered, AreInRange};
-ghost use Rattle.assembler.specs.Counted.{defined_funcs, has_func, count_funcs};
+ghost use Rattle.assembler.specs.FunctionCounts.{defined_funcs, has_func, count_funcs};
 
 use crate::parts::{Parts, put};
 use std::alloc::Allocator;

@@ -2,9 +2,9 @@
 ghost use Rattle.std.specs.Prelude.{◌≡◌, length, IfOk, IfErr};
 ghost use Rattle.lexer.specs.Views.{views, SpansRise};
 ghost use Rattle.spec_text.specs.Lexical.{Lexes};
-ghost use Rattle.text_resolve.specs.Refused.{Unless};
+ghost use Rattle.text_resolve.specs.Refusals.{Unless};
 ghost use Rattle.text_tree.specs.Places.{fields_of};
-ghost use Rattle.assembler.specs.Named.{HasFields, NamesNothing, LexesToNothing, IsWhy};
+ghost use Rattle.assembler.specs.NamedModules.{HasFields, NamesNothing, LexesToNothing, IsWhy};
 
 use lexer::{LexRefusal, TextRefusal, Tokens, no_text_lexes_to_two_lists, tokens};
 use std::alloc::Allocator;

@@ -1,6 +1,6 @@
 //! Laws.
 ghost use Rattle.spec_text.specs.Names.{NamesOne};
-ghost use Rattle.assembler.specs.Made.{ReadingIsExact, ModulesAreOne};
+ghost use Rattle.assembler.specs.ModuleParts.{ReadingIsExact, ModulesAreOne};
 
 use lexer::no_text_lexes_to_two_lists;
 use text_fields::no_text_has_two_lists_of_spaces;

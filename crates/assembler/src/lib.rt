@@ -22,11 +22,11 @@ mod whole;
 ghost use Rattle.std.specs.Prelude.{◌≡◌, IfOk, IfErr};
 ghost use Rattle.module_tree.specs.Modules.{module_view};
 ghost use Rattle.spec_text.specs.Names.{Names};
-ghost use Rattle.text_resolve.specs.Refused.{Unless};
+ghost use Rattle.text_resolve.specs.Refusals.{Unless};
 ghost use Rattle.text_resolve.specs.declared.refusal.AsmRefusal.TheVariants as refusal;
 ghost use Rattle.text_resolve.specs.declared.refusal.ResolveFault.TheVariants as unresolved;
 ghost use Rattle.assembler.specs.OfFields.{IsOfFields};
-ghost use Rattle.assembler.specs.Named.{NamesNothing, IsWhy};
+ghost use Rattle.assembler.specs.NamedModules.{NamesNothing, IsWhy};
 
 pub use builder_lists::Lists;
 pub use collect::parts_of_text;

@@ -3,7 +3,7 @@ ghost use Rattle.std.specs.Prelude.{◌≡◌, ◌++◌, true, reverse, OnOk, If
 ghost use Rattle.text_resolve.specs.Outcome.{Gives};
 ghost use Rattle.text_resolve.specs.declared.refusal.ResolveFault.TheVariants.{NoMemory};
 ghost use Rattle.text_fields.specs.PartView.{part_view, is_numbered};
-ghost use Rattle.assembler.specs.Made.{put_in};
+ghost use Rattle.assembler.specs.ModuleParts.{put_in};
 ghost use Rattle.assembler.specs.PartsView.{parts_view, are_parts_numbered};
 
 use module_tree::module::{DataSegment, Element, Export, Func, Global, Import};

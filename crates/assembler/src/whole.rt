@@ -5,7 +5,7 @@ ghost use Rattle.spec_modules.specs.Spells.{ModuleFits};
 ghost use Rattle.spec_text.specs.Fields.{Resolves};
 ghost use Rattle.text_resolve.specs.Outcome.{Unless};
 ghost use Rattle.text_tree.specs.Views.{fields_of};
-ghost use Rattle.assembler.specs.Named.{ResolveToNothing};
+ghost use Rattle.assembler.specs.NamedModules.{ResolveToNothing};
 
 use crate::lists::lists_of;
 use crate::{BuildFault, build_module, parts_of_text, reading_of_fields_is_exact};

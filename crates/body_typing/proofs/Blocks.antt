@@ -15,7 +15,7 @@ use Rattle.spec_typing.proofs.Sound.{run_some, ended}
 use Rattle.spec_typing.proofs.Complete.{run_gives, ends_gives}
 use Rattle.body_typing.specs.declared.scope.TypeRefusal.{TypeRefusal}
 use Rattle.body_typing.specs.declared.scope.TypeRefusal.TheVariants.{At, NoMemory}
-use Rattle.body_typing.specs.Checked.{context_at, Meets, Gives, Tells}
+use Rattle.body_typing.specs.CheckResults.{context_at, Meets, Gives, Tells}
 
 -- the instructions from one on
 drop_next : {A : Type 0} (is : List (Instr A)) (x : Instr A) (i : ℕ) → i < length is → x ≡ get_or is i x → instrs_view (drop i is) ≡ syntax.seq (instr_view x) (instrs_view (drop (i + 1) is))

@@ -7,7 +7,7 @@ use Rattle.spec_typing.specs.Modules.{type_at}
 use Rattle.spec_typing.specs.Principal.{Stack, same_result, leads, all_lead, arrow}
 use Rattle.body_typing.specs.declared.scope.TypeRefusal.{TypeRefusal}
 use Rattle.wtypes.specs.declared.FuncType.{FuncType}
-use Rattle.body_typing.specs.Checked.{Meets}
+use Rattle.body_typing.specs.CheckResults.{Meets}
 use Rattle.module_tree.specs.ModuleView.{func_type_view}
 
 pub leads_none : (labels : List (Option ValType)) (block : Option ValType) (n : ℕ) → None ≡ slice_get labels n → false ≡ leads labels block n

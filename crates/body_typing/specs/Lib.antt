@@ -1,3 +1,3 @@
-pub mod Checked
+pub mod CheckResults
 pub mod Spaces
 pub mod RuleNumbers

@@ -7,7 +7,7 @@ ghost use Rattle.spec_typing.specs.Modules.{BodyTyped, type_at, result_of};
 ghost use Rattle.spec_typing.specs.Principal.{Stack, empty, arrow, step, run, ends, guard};
 ghost use Rattle.module_tree.specs.View.{instr_view, instrs_view};
 ghost use Rattle.module_tree.specs.ModuleView.{func_view, func_type_view};
-ghost use Rattle.body_typing.specs.Checked.{spaces_view, context_at, Meets, Gives, Tells};
+ghost use Rattle.body_typing.specs.CheckResults.{spaces_view, context_at, Meets, Gives, Tells};
 
 use crate::operands::Operands;
 use crate::plain::{Place, check_plain, check_table, refused};

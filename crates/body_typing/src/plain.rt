@@ -6,7 +6,7 @@ ghost use Rattle.wtypes.specs.declared.ValType.TheVariants.{I32};
 ghost use Rattle.wtypes.specs.declared.PlainInstr.TheVariants as plain;
 ghost use Rattle.spec_typing.specs.Typing.{of};
 ghost use Rattle.spec_typing.specs.Principal.{guard, arrow, leave, select, plain_step, leads, all_lead, same_result};
-ghost use Rattle.body_typing.specs.Checked.{context_at, Meets};
+ghost use Rattle.body_typing.specs.CheckResults.{context_at, Meets};
 
 use crate::lookup::{is_load_aligned, is_store_aligned, label_at, type_at, type_index};
 use crate::operands::Operands;

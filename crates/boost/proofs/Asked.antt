@@ -7,7 +7,7 @@ use Rattle.spec_ledger.specs.declared.TraceStep.{TraceStep}
 use Rattle.spec_ledger.specs.declared.TraceStep.TheVariants.{Did, Opened, Kept, Dropped}
 use Rattle.spec_ledger.specs.Modes.{mode_at, ops_of}
 use Rattle.spec_ledger.proofs.Traces.{ops_of-append, mode_at-push}
-use Rattle.boost.specs.Asked.{asked_by}
+use Rattle.boost.specs.LockRequests.{asked_by}
 
 asked_push : (lock : Lock) (t : List TraceStep) (s : TraceStep) → asked_by lock s (mode_at lock (ops_of t)) ≡ mode_at lock (ops_of (t ++ s ∷ []))
 asked_push lock t (Did op r) = sym (ap (mode_at lock) (ops_of-append t (Did op r ∷ [])) ∙ mode_at-push (ops_of t) op lock)

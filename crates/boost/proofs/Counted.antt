@@ -4,7 +4,7 @@ use Rattle.spec_ledger.specs.declared.Inverse.{Inverse}
 use Rattle.spec_ledger.specs.Book.{Attempt}
 use Rattle.storage.specs.Counts.{Counts, opened_all, AreCounts}
 use Rattle.storage.proofs.Counted.{opened_all_comm, AreCounts-opened_all}
-use Rattle.boost.specs.Counted.{live_counts}
+use Rattle.boost.specs.UnsettledCounts.{live_counts}
 
 pub AreCounts-live : (rest : List Attempt) (m : Counts) → AreCounts m → AreCounts (live_counts rest m)
 AreCounts-live [] m are = are

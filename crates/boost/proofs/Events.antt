@@ -26,11 +26,11 @@ use Rattle.storage.specs.Counts.{Counts, opened}
 use Rattle.std.proofs.Common.{Some, slice_get}
 use Rattle.std.proofs.lemmas.Option.{slice_get-get_or}
 use Rattle.storage.specs.Counts.{opened_all, closed_all, AreUnsettled, AreCounts}
-use Rattle.boost.specs.Counted.{live_counts}
+use Rattle.boost.specs.UnsettledCounts.{live_counts}
 use Rattle.boost.specs.declared.standing.CallState.{CallState}
 use Rattle.boost.specs.declared.standing.CallState.TheVariants.{Idle, Live, Committed}
 use Rattle.boost.specs.BookInvariant.{IsBook, IsPlace, AreStanding, rows_with, committed_with, live_with}
-use Rattle.boost.specs.Numbered.{HasTrace}
+use Rattle.boost.specs.AttemptNumbers.{HasTrace}
 use Rattle.boost.proofs.Held.{AreBelow, no_other, rows_out, rows_with-append, length-rows_with, emptied, empty_row, own_row, share_to, share_from, touched-push}
 use Rattle.boost.proofs.Standings.{found_at, none_there, wide_standings, AreStanding-book, stands_idle, stands_live, stands_committed, left_standing, still_idle, apart_right, same_standing, live_with-append, committed_with-append}
 use Rattle.storage.proofs.Counted.{opened_all-push, closed_all-opened_all, AreUnsettled-opened_all, AreCounts-empty}

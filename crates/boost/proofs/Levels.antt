@@ -12,7 +12,7 @@ use Rattle.spec_ledger.specs.Events.{EnterDone, LeaveDone, IsNotEntered}
 use Rattle.spec_ledger.proofs.Kept.{IsKept-enter, IsKept-leave}
 use Rattle.storage.specs.Counts.{Counts, Store, opened_all, closed_all, AreCounts}
 use Rattle.storage.proofs.Counted.{closed_all-opened_all, AreCounts-empty, AreCounts-opened_all}
-use Rattle.boost.specs.Counted.{live_counts}
+use Rattle.boost.specs.UnsettledCounts.{live_counts}
 use Rattle.boost.specs.declared.standing.CallState.{CallState}
 use Rattle.boost.specs.declared.standing.CallState.TheVariants.{Idle}
 use Rattle.boost.specs.BookInvariant.{IsBook, IsPlace, rows_with, committed_with, live_with}

@@ -15,7 +15,7 @@ use Rattle.storage.specs.Counts.{Counts}
 use Rattle.boost.specs.declared.standing.CallState.{CallState}
 use Rattle.boost.specs.declared.standing.CallState.TheVariants.{Idle, Live}
 use Rattle.boost.specs.BookInvariant.{IsBook, rows_with, committed_with, live_with}
-use Rattle.boost.specs.Numbered.{after_begin_as, BegunAs, HasTrace}
+use Rattle.boost.specs.AttemptNumbers.{after_begin_as, BegunAs, HasTrace}
 use Rattle.boost.proofs.Held.{no_other}
 use Rattle.boost.proofs.Events.{IsBook-begin, IsBook-undo_last, found_not_stale, known_there}
 

@@ -14,11 +14,11 @@ use Rattle.spec_ledger.specs.Book.{Attempt, Content, GetsRepliesFrom, Marked, Is
 use Rattle.spec_ledger.proofs.Kept.{All-with, apart_with, beside, live_here, live_others, others_apart}
 use Rattle.spec_ledger.proofs.Traces.{All-standing, after-standing, live_after-append, ops_of-append, standing_at-push}
 use Rattle.storage.specs.Counts.{Counts}
-use Rattle.boost.specs.Counted.{live_counts}
+use Rattle.boost.specs.UnsettledCounts.{live_counts}
 use Rattle.boost.specs.declared.standing.CallState.{CallState}
 use Rattle.boost.specs.declared.standing.CallState.TheVariants.{Idle}
 use Rattle.boost.specs.BookInvariant.{IsBook, rows_with, committed_with, live_with}
-use Rattle.boost.specs.Numbered.{after_begin_with, BegunAs, BegunWith, marked}
+use Rattle.boost.specs.AttemptNumbers.{after_begin_with, BegunAs, BegunWith, marked}
 use Rattle.boost.proofs.Counted.{live_counts_out}
 use Rattle.boost.proofs.Levels.{same_rows}
 use Rattle.boost.proofs.Marking.{kept_marks, dropped_marks, none_open, opened_marks}

@@ -4,7 +4,7 @@ use Rattle.std.specs.FinMap.{empty}
 use Rattle.spec_ledger.specs.Book.{Attempt, CommittedCall, Content, IsKept}
 use Rattle.spec_ledger.specs.Modes.{Modes}
 use Rattle.storage.specs.Counts.{Counts}
-use Rattle.boost.specs.Counted.{live_counts}
+use Rattle.boost.specs.UnsettledCounts.{live_counts}
 use Rattle.boost.specs.declared.standing.CallState.{CallState}
 use Rattle.boost.specs.declared.standing.CallState.TheVariants.{Idle, Live, Committed}
 

@@ -5,7 +5,7 @@ ghost use Rattle.spec_ledger.specs.Book.{Content, IsKept, IsGranted, extended, a
 ghost use Rattle.spec_ledger.specs.Facts.{CellsAreSettledButForHolders, EntriesAreSerialRun, LiveAttemptsGoTogether, LiveTracesGetReplies};
 ghost use Rattle.spec_ledger.specs.Events.{IsStale, BeginDone, HasNoAttempt, OpDone, IsConflict, EnterDone, LeaveDone, IsNotEntered, UndoDone, CommitDone, IsOther, IsUndoneLast};
 ghost use Rattle.boost.specs.BookInvariant.{AreStanding, IsBook, IsPlace};
-ghost use Rattle.boost.specs.Numbered.{BegunAs, BegunWith, HasTrace, IsPassed};
+ghost use Rattle.boost.specs.AttemptNumbers.{BegunAs, BegunWith, HasTrace, IsPassed};
 ghost use Rattle.spec_ledger.specs.Modes.{ops_of};
 ghost use Rattle.std.specs.FinMap as finite;
 

@@ -11,9 +11,9 @@ use Rattle.spec_execution.specs.Configuration.{Setting}
 use Rattle.spec_execution.specs.Run.{ContractCall}
 use Rattle.spec_execution.specs.Levels.{Levels}
 use Rattle.spec_execution.specs.Turns.{shown, place_of}
-use Rattle.spec_execution.specs.Turning.{Turned, opened, turned, IsState}
+use Rattle.spec_execution.specs.CallStates.{Turned, opened, turned, IsState}
 use Rattle.interp.specs.Progress.{Progress}
-use Rattle.interp.specs.Shown.{ending, ending_of}
+use Rattle.interp.specs.MachineViews.{ending, ending_of}
 use Rattle.debugger.specs.declared.place.Place.{Place}
 use Rattle.debugger.specs.declared.cursor.Cursor.{Cursor}
 use Rattle.debugger.specs.declared.kept.Kept.{Kept}

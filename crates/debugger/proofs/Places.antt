@@ -11,11 +11,11 @@ use Rattle.spec_execution.specs.Configuration.{Setting, Seq, End, State, Config,
 use Rattle.spec_execution.specs.Reduction.{Of, Ask, Answer, Next, Goes, Traps, Asks, Branches, Returns, Ended, Stuck}
 use Rattle.spec_execution.specs.Run.{Opening, Opens, Refused, next, IsCharged}
 use Rattle.spec_execution.specs.Levels.{Level, Levels, asked, trap_status, signed_of, no_answer, back_by, back_to, returned, fallen, entering, by_next, by_config, first_level, IsChargedMove, Reached, at_first, moved, replied}
-use Rattle.spec_execution.specs.Turning.{FreeMoves, none, one_more, IsAnswered, not_asked, Rests, to_come, ended, Turned, opened, turned}
-use Rattle.spec_execution.specs.Turning as turning
+use Rattle.spec_execution.specs.CallStates.{FreeMoves, none, one_more, IsAnswered, not_asked, Rests, to_come, ended, Turned, opened, turned}
+use Rattle.spec_execution.specs.CallStates as turning
 use Rattle.spec_execution.specs.Turns.{shown, is_to_come, place_of}
-use Rattle.laws_soundness.specs.Coming.{PlacesAreOfWhatComes}
-use Rattle.interp.specs.Shown.{ending_by, ending_of}
+use Rattle.laws_soundness.specs.NextInstruction.{PlacesAreOfWhatComes}
+use Rattle.interp.specs.MachineViews.{ending_by, ending_of}
 use Rattle.debugger.specs.SessionView.{StatesHavePlaces}
 
 -- ---- what a state comes after is reached

@@ -10,11 +10,11 @@ use Rattle.spec_ledger.specs.Book.{Marked, unmarked, stepped, GetsReplies, GetsR
 use Rattle.spec_execution.specs.Configuration.{Setting, Contract}
 use Rattle.spec_execution.specs.Run.{ContractCall, opening, Opens}
 use Rattle.spec_execution.specs.Levels.{Levels, On, move, first_level}
-use Rattle.spec_execution.specs.Turning.{Turned, opened, turned, IsState}
+use Rattle.spec_execution.specs.CallStates.{Turned, opened, turned, IsState}
 use Rattle.spec_execution.specs.Walk.{over}
 use Rattle.spec_execution.proofs.Executing.{answered}
 use Rattle.spec_execution.proofs.States.{turns_unique}
-use Rattle.interp.specs.Shown.{ending_of, ending_by}
+use Rattle.interp.specs.MachineViews.{ending_of, ending_by}
 
 -- ---- one state
 

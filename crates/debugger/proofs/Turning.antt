@@ -15,11 +15,11 @@ use Rattle.spec_execution.specs.Configuration.{Setting, Contract}
 use Rattle.spec_execution.specs.Run.{ContractCall, Opening, opening, Opens, IsReply}
 use Rattle.spec_execution.specs.Levels.{Levels, Move, On, Host, Over, Nowhere, move, first_level, IsChargedMove, Ends, over, exhausted}
 use Rattle.spec_execution.specs.Turns.{shown, place_of}
-use Rattle.spec_execution.specs.Turning.{FreeMoves, none, one_more, Rests, to_come, ended, IsTurn, IsAnswered, not_asked, asked, Turned, opened, turned}
+use Rattle.spec_execution.specs.CallStates.{FreeMoves, none, one_more, Rests, to_come, ended, IsTurn, IsAnswered, not_asked, asked, Turned, opened, turned}
 use Rattle.interp.specs.declared.turns.Status.{Status}
 use Rattle.interp.specs.declared.turns.Status.TheVariants as status
 use Rattle.interp.specs.Progress.{Progress, GoesOn, Pauses, rests, leaves, IsProgress, IsProgressAt, IsOnRun, IsSameCall, IsStartOf, HasStepped, HasEntered, HasAsked, HasAnswered as HasTaken, AnsweredAt, HasReplied, HasLeft, HasGoneBack, HasClosed, IsToStop, IsDone, EndsAt, IsFree, IsLeftNext, mark_of}
-use Rattle.interp.specs.Shown.{IsShown, ending, ending_at, ending_of, ending_by, shown_at, config_shown, place_shown, outermost}
+use Rattle.interp.specs.MachineViews.{IsShown, ending, ending_at, ending_of, ending_by, shown_at, config_shown, place_shown, outermost}
 use Rattle.interp.specs.Starting.{IsOpened}
 use Rattle.debugger.specs.declared.place.Place.{Place}
 use Rattle.debugger.specs.Cursors.{HasTurned, HasBegun, HasAnswered}

@@ -7,7 +7,7 @@ use Rattle.spec_ledger.specs.Book.{unmarked, folded, GetsReplies}
 use Rattle.spec_execution.specs.Configuration.{Setting}
 use Rattle.spec_execution.specs.Run.{ContractCall, opening, Opens}
 use Rattle.spec_execution.specs.Levels.{Levels, On, move, first_level}
-use Rattle.spec_execution.specs.Turning.{FreeMoves, IsAnswered, Turned}
+use Rattle.spec_execution.specs.CallStates.{FreeMoves, IsAnswered, Turned}
 use Rattle.interp.specs.Progress.{Progress, GoesOn, Pauses, IsSameCall}
 use Rattle.debugger.specs.declared.cursor.Cursor.{Cursor}
 use Rattle.debugger.specs.Undoing.{AreNoted}

@@ -12,12 +12,12 @@ use Rattle.spec_execution.specs.Configuration.{Setting, Contract, State, Config}
 use Rattle.spec_execution.specs.Run.{ContractCall, opening, Opens}
 use Rattle.spec_execution.specs.Levels.{Level, Levels, asks_in}
 use Rattle.spec_execution.specs.Turns.{shown, state_of, stack_of, locals_of, place_of}
-use Rattle.spec_execution.specs.Turning.{IsState}
+use Rattle.spec_execution.specs.CallStates.{IsState}
 use Rattle.interp.specs.Codes.{coded_setting, coded_contract, coded_levels, coded_call}
 use Rattle.interp_state.specs.declared.frames.OpenFrame.{OpenFrame}
 use Rattle.interp.specs.Chains.{chain}
 use Rattle.interp.specs.Progress.{Progress}
-use Rattle.interp.specs.Shown.{ending_of, unless_ended, place_shown, outermost}
+use Rattle.interp.specs.MachineViews.{ending_of, unless_ended, place_shown, outermost}
 use Rattle.debugger.specs.contracts.place.Place as place
 use Rattle.debugger.specs.declared.place.Place.{Place}
 use Rattle.debugger.specs.Breaks.{placed}

@@ -3,7 +3,7 @@ ghost use Rattle.std.specs.Prelude.{◌≡◌, ◌+◌, ◌<◌, ◌≤◌, ◌�
 ghost use Rattle.spec_execution.specs.Run.{opening};
 ghost use Rattle.interp.specs.Callee.{setting_view};
 ghost use Rattle.interp.specs.Progress.{Progress, GoesOn, IsLeftNext, depth_of};
-ghost use Rattle.interp.specs.Shown.{ending};
+ghost use Rattle.interp.specs.MachineViews.{ending};
 ghost use Rattle.interp.specs.Starting.{IsRefusedFor, HasPlace, wrong_in};
 ghost use Rattle.debugger.specs.Cursors.{IsAt, IsOpened, IsSameRun, IsCopy, IsInTurn};
 

@@ -1,6 +1,6 @@
 // States that are kept, so that going back makes few turns again.
 ghost use Rattle.std.specs.Prelude.{ℕ, ◌≡◌, ◌+◌, ◌*◌, ◌<◌, ◌≤◌, [], All, vec_len, IsSome, Ok, true, false, OnOk};
-ghost use Rattle.interp.specs.Shown.{ending};
+ghost use Rattle.interp.specs.MachineViews.{ending};
 ghost use Rattle.debugger.specs.Keeping.{IsOfRun, AreKept, AreSpaced, last_turns, next_turns, IsEarlier, IsNearest};
 
 use crate::cursor::{Cursor, copy, make_turn};

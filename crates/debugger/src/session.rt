@@ -2,7 +2,7 @@
 ghost use Rattle.std.specs.Prelude.{◌≡◌, ◌+◌, ◌<◌, ◌≤◌, ◌⊎◌, IsSome, IsTrue, ◌↔◌, IfOk, OnOk, option_map, true};
 ghost use Rattle.module_tree.specs.ModuleView.{export_desc_view};
 ghost use Rattle.interp.specs.Progress.{IsSameCall};
-ghost use Rattle.interp.specs.Shown.{ending, AreReadOf};
+ghost use Rattle.interp.specs.MachineViews.{ending, AreReadOf};
 ghost use Rattle.debugger.specs.Breaks.{is_set_at, instr_there, function_of};
 ghost use Rattle.debugger.specs.Cursors.{IsAt, IsSameRun};
 ghost use Rattle.debugger.specs.SessionView.{break_place_shown, memory_shown, stands};

@@ -3,7 +3,7 @@
 ghost use Rattle.std.specs.Prelude.{◌≡◌, IfOk, IfErr};
 ghost use Rattle.spec_typing.specs.Modules.{ModuleTyped};
 ghost use Rattle.module_tree.specs.Modules.{module_view};
-ghost use Rattle.typing.specs.Judged.{Denies};
+ghost use Rattle.typing.specs.CheckResults.{Denies};
 ghost use Rattle.typing.specs.Parts.{tree_of};
 
 use body_typing::scope::TypeRefusal;

@@ -3,8 +3,8 @@
 ghost use Rattle.std.specs.Prelude.{IfOk, IfErr};
 ghost use Rattle.spec_text.specs.Names.{Names};
 ghost use Rattle.module_tree.specs.Modules.{module_view};
-ghost use Rattle.text_resolve.specs.Refused.{Unless};
-ghost use Rattle.assembler.specs.Named.{NamesNothing, IsWhy};
+ghost use Rattle.text_resolve.specs.Refusals.{Unless};
+ghost use Rattle.assembler.specs.NamedModules.{NamesNothing, IsWhy};
 
 use module_tree::module::Module;
 use std::alloc::Allocator;

@@ -2,7 +2,7 @@
 
 ghost use Rattle.std.specs.Prelude.{length, IfOk, IfErr};
 ghost use Rattle.spec_text.specs.Lexical.{Lexes};
-ghost use Rattle.lexer.specs.Refused as lexed;
+ghost use Rattle.lexer.specs.Refusals as lexed;
 ghost use Rattle.lexer.specs.Views as listed;
 
 use lexer::{LexRefusal, Tokens};

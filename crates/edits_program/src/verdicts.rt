@@ -3,7 +3,7 @@
 ghost use Rattle.std.specs.Prelude.{◌≤◌, IfOk, length};
 ghost use Rattle.spec_block.specs.Verdicts.{IsVerdictOf};
 ghost use Rattle.world.specs.Views.{world_view};
-ghost use Rattle.validator.specs.Judged.{verdict_view};
+ghost use Rattle.validator.specs.VerdictsFound.{verdict_view};
 
 use call::Call;
 use pace::Pace;

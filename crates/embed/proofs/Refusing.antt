@@ -8,7 +8,7 @@ use Rattle.records.specs.declared.refusal.BlockRefusal.TheVariants as of_block
 use Rattle.world.specs.Reading.{IsNoWorld, Refuses}
 use Rattle.records.specs.declared.refusal.ReadRefusal.{ReadRefusal}
 use Rattle.records.specs.declared.refusal.ReadRefusal.TheVariants as cause
-use Rattle.text_resolve.specs.Refused.{Unless}
+use Rattle.text_resolve.specs.Refusals.{Unless}
 use Rattle.text_resolve.specs.declared.refusal.AsmRefusal.{AsmRefusal}
 use Rattle.text_resolve.specs.declared.refusal.AsmRefusal.TheVariants as of_text
 use Rattle.wblock_modules.specs.Assembles.{told}

@@ -19,7 +19,7 @@ use Rattle.wblock_line.specs.Modules.{IsWhy}
 use Rattle.wblock_line.specs.declared.refusals.ModuleRefusal.{ModuleRefusal}
 use Rattle.wblock_line.specs.declared.refusals.ModuleRefusal.TheVariants.{Malformed, Unsupported, TooLarge, Untyped, UnknownImport, ImportType, SegmentRange, TooManyPages, TableTooLarge}
 use Rattle.text_resolve.specs.declared.refusal.AsmRefusal.{AsmRefusal}
-use Rattle.assembler.specs.Named as naming
+use Rattle.assembler.specs.NamedModules as naming
 use Rattle.wblock_modules.specs.Assembles.{told}
 use Rattle.wblock_modules.specs.Texts.{SpellsOne}
 use Rattle.wblock_modules.specs.declared.text.Found.{Found}

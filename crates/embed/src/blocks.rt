@@ -4,7 +4,7 @@ ghost use Rattle.std.specs.Prelude.{◌≡◌, ◌≤◌, Some, IfOk, IfErr, len
 ghost use Rattle.spec_block.specs.Bytes.{SpellsBlock};
 ghost use Rattle.spec_block.specs.Verdicts.{IsVerdictOf};
 ghost use Rattle.block_judge.specs.Judging as judged;
-ghost use Rattle.validator.specs.Judged.{verdict_view};
+ghost use Rattle.validator.specs.VerdictsFound.{verdict_view};
 ghost use Rattle.world.specs.Views.{world_view};
 ghost use Rattle.embed.specs.Given.{Accepts, IsAccepted, IsMined, Leaves, Mines};
 ghost use Rattle.embed.specs.Refusals as told;

@@ -6,7 +6,7 @@ use Rattle.spec_execution.specs.Configuration.{Setting}
 use Rattle.spec_execution.specs.Run.{ContractCall}
 use Rattle.spec_execution.specs.Serial.{Serial}
 use Rattle.interp.specs.Callee.{setting_view}
-use Rattle.interp.specs.Played.{Played}
+use Rattle.interp.specs.FinishedCalls.{Played}
 use Rattle.serial.specs.Positions.{results_of}
 use Rattle.serial.specs.Runs.{IsRunOf}
 use Rattle.in_order.specs.declared.InOrder.{InOrder}

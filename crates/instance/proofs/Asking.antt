@@ -13,7 +13,7 @@ use Rattle.spec_execution.specs.Configuration.{Contract, Function, Hosted, Defin
 use Rattle.spec_execution.specs.Reduction.{same_types, same_function_type}
 use Rattle.spec_execution.specs.Run.{Opening, Opens, Refused}
 use Rattle.spec_execution.specs.Levels.{asked, ask_type, level_limit, by_asked_contract, by_asked_export, by_asked_function}
-use Rattle.instance.specs.Asked.{is_asked, export_at, asked_function}
+use Rattle.instance.specs.AskFunctions.{is_asked, export_at, asked_function}
 use Rattle.instance.specs.Views.{deployed_view, contract_of, setting_of}
 
 abbrev by_found : Contract → Option ℕ → Opening

@@ -1,4 +1,4 @@
 pub mod Globals
 pub mod States
-pub mod Asked
+pub mod AskFunctions
 pub mod Views

@@ -7,7 +7,7 @@ ghost use Rattle.spec_execution.specs.Run.{by_contract, Opens, Refused, wrong_ar
 ghost use Rattle.wtypes.specs.declared.ValType.TheVariants.{I64};
 ghost use Rattle.spec_ledger.specs.declared.Version.{Version};
 ghost use Rattle.spec_modules.specs.Operators.{same_type, type_of};
-ghost use Rattle.instance.specs.Asked as spec;
+ghost use Rattle.instance.specs.AskFunctions as spec;
 ghost use Rattle.instance.specs.Views.{deployed_view, contract_of, setting_of, code_of, Enters, HasPlace, wrong_for, wrong_of};
 ghost use Rattle.spec_execution.specs.Configuration.{function_at};
 

@@ -10,7 +10,7 @@ use Rattle.spec_execution.specs.Reduction.{Of, Ask, Answer, Next, Goes, Traps, A
 use Rattle.spec_execution.specs.Run.{next, Reduces, result_of}
 use Rattle.spec_execution.specs.Turns as one
 use Rattle.spec_execution.specs.Levels.{Level, Levels, Nowhere, by_next, move, back_by, back_to, returned, fallen, trap_status, signed_of, no_answer}
-use Rattle.spec_execution.specs.Turning.{to_come, ended}
+use Rattle.spec_execution.specs.CallStates.{to_come, ended}
 use Rattle.spec_execution.proofs.Lifting.{at, among, lifted, frees_lifted, charged_lifted}
 use Rattle.interp.specs.Progress.{Pauses, rests, leaves, HasMoved}
 

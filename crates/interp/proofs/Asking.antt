@@ -27,7 +27,7 @@ use Rattle.laws_reduction.specs.Hosting.{arity_of, host_room, host_asks}
 use Rattle.interp.specs.Progress as progress_of
 use Rattle.interp.specs.Progress.{Pauses, IsAsking, HasMoved, HasStepped, HasAsked, HasAnswered, AnsweredAt, NextIs}
 use Rattle.interp.specs.Machine.{Seen, on, first_of, levels, config_of, progress, Reaches, IsWaiting, IsAt, IsMachine, IsCalling, IsStarted, HasStarted, IsAskedFor, HasGoneOn, HasAskedFor, params_of, going_on, value_of_reply}
-use Rattle.interp.specs.Asked.{args_taken}
+use Rattle.interp.specs.HostRequests.{args_taken}
 use Rattle.laws_reduction.specs.Charging.{Stands_at, put-append}
 use Rattle.laws_reduction.specs.Tails.{joined, with_tail, joined_next}
 use Rattle.laws_reduction.specs.Joining.{reduce_joined, reduces_joined, stuck_joined, at_rest}

@@ -17,7 +17,7 @@ use Rattle.spec_typing.specs.Linking.{IsLinked}
 use Rattle.spec_execution.specs.Configuration.{Setting, Deployed, Contract, Hosted, defined, function_at, function_type, State, Seq, End, Invoke, Config, Running, arguments, fresh}
 use Rattle.spec_execution.specs.Run.{ContractCall, opening, Opens, after_start, first, result_of}
 use Rattle.spec_execution.specs.Levels.{Level, Levels, by_next, first_level, no_answer, Reached, at_first, IsSafe}
-use Rattle.spec_execution.specs.Turning.{FreeMoves, Rests, to_come, ended}
+use Rattle.spec_execution.specs.CallStates.{FreeMoves, Rests, to_come, ended}
 use Rattle.spec_execution.proofs.Lifting.{frees_lifted, charged_lifted}
 use Rattle.spec_execution.proofs.Lifting.{at as at_level}
 use Rattle.spec_execution.specs.Turns as one

@@ -12,7 +12,7 @@ use Rattle.spec_execution.specs.Reduction.{HostEffect, Ask, Asks, reduce, replie
 use Rattle.spec_execution.specs.Run.{next, ContractCall, opening, Opens, Refused, after_start, first, result_of}
 use Rattle.spec_execution.specs.Levels as spec
 use Rattle.spec_execution.specs.Levels.{Level, Levels, Move, On, Nowhere, move, by_next, wished, asked, entering, returned, back_by, back_to, fresh_level, first_level, trap_status, no_answer, Reached, moved, IsSafe}
-use Rattle.spec_execution.specs.Turning.{FreeMoves, one_more}
+use Rattle.spec_execution.specs.CallStates.{FreeMoves, one_more}
 use Rattle.spec_execution.specs.Turns.{Frees}
 use Rattle.spec_execution.proofs.Lifting.{frees_lifted}
 use Rattle.interp.specs.declared.turns.Status.{Status}
@@ -22,7 +22,7 @@ use Rattle.laws_reduction.specs.Plain.{onto}
 use Rattle.laws_reduction.specs.Tails.{joined, with_tail, joined_next}
 use Rattle.laws_reduction.specs.Joining.{reduce_joined}
 use Rattle.interp.specs.Progress.{Pauses, IsSameCall, HasLeft, mark_of}
-use Rattle.interp.specs.Asked.{args_taken, number_of}
+use Rattle.interp.specs.HostRequests.{args_taken, number_of}
 use Rattle.interp.specs.Machine.{Seen, first_of, first_config, levels, config_at, config_of, progress, IsLive, IsMachine, IsCalling, IsBegunAs, HasGoneOn, IsLeaving, IsToClose, value_of_reply}
 use Rattle.interp.proofs.Turning.{innermost, live_of, end_values_of, is_fallen, pauses_live, pauses_of, by_frees, shut_more}
 use Rattle.interp.proofs.Around.{IsSome}

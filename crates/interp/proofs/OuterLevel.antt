@@ -5,7 +5,7 @@ use Rattle.spec_execution.specs.Levels as spec
 use Rattle.spec_execution.specs.Turns.{state_of}
 use Rattle.laws_reduction.specs.Meaning.{state}
 use Rattle.interp.specs.Progress.{last_level}
-use Rattle.interp.specs.Shown.{outermost}
+use Rattle.interp.specs.MachineViews.{outermost}
 use Rattle.interp.specs.declared.run.Level.{Level}
 use Rattle.interp.specs.declared.run.Run.{Run}
 use Rattle.interp.specs.Machine.{progress}

@@ -23,7 +23,7 @@ use Rattle.laws_reduction.specs.Meaning.{Item, config, calling, invoking, sequen
 use Rattle.laws_reduction.specs.Branches.{in_call}
 use Rattle.laws_reduction.specs.Plain.{onto}
 use Rattle.interp.specs.Machine.{Seen, on, first_of, levels, progress, IsAt, IsLive, IsWaiting, IsOver, IsMachine}
-use Rattle.interp.specs.Shown.{ending, ending_by, state_alone, shown_at, is_out, leaves_stack, unless_ended, stack_shown, locals_shown, place_shown, is_fallen, IsShown}
+use Rattle.interp.specs.MachineViews.{ending, ending_by, state_alone, shown_at, is_out, leaves_stack, unless_ended, stack_shown, locals_shown, place_shown, is_fallen, IsShown}
 use Rattle.interp_state.specs.Innermost.{function_in}
 use Rattle.laws_reduction.specs.Charging.{height-le}
 use Rattle.laws_reduction.specs.Rest.{is_charged}

@@ -1,11 +1,11 @@
 pub mod Starting
-pub mod Shown
+pub mod MachineViews
 pub mod Codes
-pub mod Played
+pub mod FinishedCalls
 pub mod Progress
 pub mod Turns
 pub mod Machine
-pub mod Asked
+pub mod HostRequests
 pub mod Callee
 pub mod Run
 pub mod Chains

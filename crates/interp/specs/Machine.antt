@@ -22,7 +22,7 @@ use Rattle.interp.specs.declared.turns.Turn.{Turn}
 use Rattle.interp.specs.declared.turns.Turn.TheVariants as turn
 use Rattle.laws_reduction.specs.Meaning.{View, height, whole, listed, config, calling, invoking, state, IsOrdered, IsReady}
 use Rattle.interp.specs.Progress.{Progress, Pauses, IsSameCall, GoesOn, IsToStop, mark_of}
-use Rattle.spec_execution.specs.Turning.{FreeMoves}
+use Rattle.spec_execution.specs.CallStates.{FreeMoves}
 use Rattle.laws_reduction.specs.Tails.{with_tail}
 
 -- the parts of a machine in the words of the definitions

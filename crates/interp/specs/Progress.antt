@@ -13,7 +13,7 @@ use Rattle.spec_execution.specs.Configuration.{Setting, Contract, Seq, End, Val,
 use Rattle.spec_execution.specs.Run.{ContractCall, opening, Opens, IsReply}
 use Rattle.spec_execution.specs.Levels.{Level, Levels, On, Host, first_level, move, IsChargedMove, Reached, Ends, IsRun}
 use Rattle.spec_execution.specs.Turns.{state_of}
-use Rattle.spec_execution.specs.Turning.{FreeMoves, Rests}
+use Rattle.spec_execution.specs.CallStates.{FreeMoves, Rests}
 use Rattle.interp_state.specs.Taking.{takes_memory}
 use Rattle.interp.specs.contracts.turns.Status as status_of
 use Rattle.interp.specs.declared.turns.Status.{Status}
@@ -21,7 +21,7 @@ use Rattle.interp.specs.declared.turns.Status.TheVariants as status
 use Rattle.interp.specs.declared.turns.Turn.{Turn}
 use Rattle.interp.specs.declared.turns.Turn.TheVariants as turn
 use Rattle.interp.specs.Codes.{coded_setting, coded_contract, coded_levels, coded_call}
-use Rattle.interp.specs.Played.{Played}
+use Rattle.interp.specs.FinishedCalls.{Played}
 
 -- the outer level, in which the others were entered
 abbrev pub last_level : Level → List Level → Level

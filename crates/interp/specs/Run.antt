@@ -15,7 +15,7 @@ use Rattle.spec_ledger.specs.declared.TraceStep.{TraceStep}
 use Rattle.spec_ledger.specs.declared.TraceStep.TheVariants.{Opened}
 use Rattle.spec_ledger.specs.declared.Version.{Version}
 use Rattle.spec_execution.specs.Reduction.{HostEffect, Ask, Asks, replied}
-use Rattle.interp.specs.Asked.{args_taken}
+use Rattle.interp.specs.HostRequests.{args_taken}
 use Rattle.spec_execution.specs.Run.{next}
 use Rattle.spec_execution.specs.Levels as spec
 use Rattle.interp_state.specs.Views.{view}

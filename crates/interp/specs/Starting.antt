@@ -8,7 +8,7 @@ use Rattle.spec_execution.specs.Places.{body_of}
 use Rattle.instance.specs.Views.{wrong_of}
 use Rattle.interp.specs.declared.start.StartRefusal.{StartRefusal}
 use Rattle.interp.specs.declared.start.StartRefusal.TheVariants.{NoContract, NoExport, NotFunction, ArgCount, ArgType, NoMemory}
-use Rattle.interp.specs.Played.{Played}
+use Rattle.interp.specs.FinishedCalls.{Played}
 
 -- the call opens with a function
 abbrev pub IsOpened : Opening → Type 0

@@ -2,7 +2,7 @@
 ghost use Rattle.std.specs.Prelude.{◌≡◌, Some, option_map, IfSome, IfNone};
 ghost use Rattle.spec_execution.specs.Run.{opening};
 ghost use Rattle.spec_execution.specs.Levels.{asks_in};
-ghost use Rattle.interp.specs.Played.{IsPlayed, receipt_of};
+ghost use Rattle.interp.specs.FinishedCalls.{IsPlayed, receipt_of};
 ghost use Rattle.interp.specs.Starting.{IsOpened, IsRejection, LacksFuel, IsWithoutFuel};
 ghost use Rattle.interp.specs.Callee.{setting_view};
 
@@ -31,7 +31,7 @@ pub struct Finished<'a, A: Allocator> {
 impl<'a, A: Allocator> Model for Finished<'a, A> {
     ghost use Rattle.std.specs.Prelude.{◌≡◌};
     ghost use Rattle.spec_execution.specs.Levels.{asks_in};
-    ghost use Rattle.interp.specs.Played.{Played, coded_played, IsPlayed};
+    ghost use Rattle.interp.specs.FinishedCalls.{Played, coded_played, IsPlayed};
     ghost use Rattle.interp.specs.Callee.{setting_view};
 
     ghost Value = { Played };

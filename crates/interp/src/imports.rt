@@ -1,6 +1,6 @@
 // Calls of imports.
 ghost use Rattle.std.specs.Prelude.{◌≡◌, ◌<◌, length};
-ghost use Rattle.interp.specs.Asked.{effect_of_code};
+ghost use Rattle.interp.specs.HostRequests.{effect_of_code};
 ghost use Rattle.interp.specs.Machine.{progress, HasAskedFor};
 ghost use Rattle.interp.specs.Progress.{IsSameCall};
 ghost use Rattle.interp.specs.Run.{seen, IsKept, IsToCall, IsWished};

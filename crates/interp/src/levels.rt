@@ -1,7 +1,7 @@
 // Levels that are entered and left.
 ghost use Rattle.std.specs.Prelude.{◌≡◌, ◌<◌, ◌≤◌, ◌+◌, ◌-◌, ◌^◌, ◌∷◌, [], false, length, vec_len, vec_capacity, IfOk};
 ghost use Rattle.spec_execution.specs.Levels.{trap_status};
-ghost use Rattle.interp.specs.Asked.{effect_of_code};
+ghost use Rattle.interp.specs.HostRequests.{effect_of_code};
 ghost use Rattle.interp.specs.declared.replies.HostEffect.{HostEffect};
 ghost use Rattle.interp.specs.Machine.{progress, HasAskedFor, HasRoom, IsLeaving, IsToClose};
 ghost use Rattle.wtypes.specs.declared.Value.TheVariants as value;

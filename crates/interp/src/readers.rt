@@ -4,7 +4,7 @@ ghost use Rattle.spec_execution.specs.Turns.{state_of};
 ghost use Rattle.interp.specs.Machine.{progress};
 ghost use Rattle.interp.specs.Run.{seen, IsKept};
 ghost use Rattle.interp.specs.Progress.{GoesOn, IsLeftNext};
-ghost use Rattle.interp.specs.Shown.{is_out, leaves_stack, ending, stack_shown, locals_shown, place_shown, outermost, IsShown, AreReadOf, IsReadOf, is_fallen};
+ghost use Rattle.interp.specs.MachineViews.{is_out, leaves_stack, ending, stack_shown, locals_shown, place_shown, outermost, IsShown, AreReadOf, IsReadOf, is_fallen};
 
 use crate::machine::Machine;
 use crate::run::{Level, Run};
@@ -303,7 +303,7 @@ impl<'a, A: Allocator + Copy> Machine<'a, A> {
     ghost use Rattle.std.specs.Prelude.{◌↔◌, IsTrue};
     ghost use Rattle.spec_execution.specs.Levels.{asks_in};
     ghost use Rattle.interp.specs.Progress.{GoesOn, IsLeftNext};
-    ghost use Rattle.interp.specs.Shown.{ending, stack_shown, locals_shown, place_shown, outermost, IsShown, IsReadOf};
+    ghost use Rattle.interp.specs.MachineViews.{ending, stack_shown, locals_shown, place_shown, outermost, IsShown, IsReadOf};
 
     /// The same machine, with memory of its own.
     ///

@@ -2,7 +2,7 @@
 ghost use Rattle.std.specs.Prelude.{◌≡◌, ◌<◌, ◌≤◌, ◌+◌, ◌-◌, ◌%◌, ◌^◌, ◌++◌, ◌∷◌, [], take, drop, pos, vec_len, vec_capacity};
 ghost use Rattle.spec_modules.specs.Operators.{bits_of};
 ghost use Rattle.spec_execution.specs.Reduction.{effect_of};
-ghost use Rattle.interp.specs.Asked.{effect_of_code};
+ghost use Rattle.interp.specs.HostRequests.{effect_of_code};
 ghost use Rattle.interp.specs.Machine.{progress, params_of, value_of_reply};
 ghost use Rattle.laws_reduction.specs.Hosting.{arity_of};
 ghost use Rattle.wtypes.specs.declared.Value.TheVariants as value;

@@ -1,6 +1,6 @@
 // Turns: the charged reduction of an instruction with the free ones that follow, and what is told at an end.
 ghost use Rattle.std.specs.Prelude.{◌≡◌, ◌≢◌, ◌<◌, true, false, [], length};
-ghost use Rattle.interp.specs.Asked.{number_of};
+ghost use Rattle.interp.specs.HostRequests.{number_of};
 ghost use Rattle.interp.specs.Machine.{progress, HasRoom, IsShut};
 ghost use Rattle.interp.specs.Progress.{NextIs, IsToStop, IsSameCall, MayTakeMemory, WantsMemory, IsTold, IsFree, LastIs};
 ghost use Rattle.interp.specs.Run.{seen, IsKept};

@@ -12,7 +12,7 @@ pub mod Callee
 pub mod Plain
 pub mod Memories
 pub mod Elements
-pub mod Held
+pub mod TopmostValues
 pub mod Taking
 pub mod Frames
 pub mod Unwinding

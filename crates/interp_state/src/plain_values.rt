@@ -1,6 +1,6 @@
 // What instructions make of values that stand beside the stack.
 ghost use Rattle.std.specs.Prelude.{◌≡◌, ◌<◌, length, true, false, None, IfSome};
-ghost use Rattle.interp_state.specs.Held.{Pushes, Joins, Changes, Writes, IsReadyToPush, IsReadyToJoin, IsReadyToChange, TakesTwo, JoinsNone, pushes, joins, changes};
+ghost use Rattle.interp_state.specs.TopmostValues.{Pushes, Joins, Changes, Writes, IsReadyToPush, IsReadyToJoin, IsReadyToChange, TakesTwo, JoinsNone, pushes, joins, changes};
 
 use numeric::{binary, compare, convert, test, unary};
 use std::alloc::Allocator;

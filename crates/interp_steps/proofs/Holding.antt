@@ -15,7 +15,7 @@ use Rattle.laws_reduction.specs.Charging.{mk}
 use Rattle.instance.specs.States.{based}
 use Rattle.interp_state.specs.declared.callee.Callee.{Callee}
 use Rattle.interp_state.specs.Callee.{contract_of, base_of}
-use Rattle.interp_state.specs.Held.{Pushes, IsReadyToPush, IsReadyToJoin, IsReadyToChange}
+use Rattle.interp_state.specs.TopmostValues.{Pushes, IsReadyToPush, IsReadyToJoin, IsReadyToChange}
 use Rattle.interp_state.specs.declared.parts.Parts.{Parts}
 use Rattle.interp_state.specs.Views.{items_of, opens_of}
 use Rattle.interp_state.specs.ViewLaws.{items_nil}

@@ -8,7 +8,7 @@ use Rattle.module_tree.specs.declared.instr.Instr as tree
 use Rattle.spec_execution.specs.Configuration.{Contract, State}
 use Rattle.laws_reduction.specs.Meaning.{Open, View, IsSafeAt, Charged}
 use Rattle.instance.specs.States.{based}
-use Rattle.interp_state.specs.Held.{pushes}
+use Rattle.interp_state.specs.TopmostValues.{pushes}
 use Rattle.interp_state.specs.declared.parts.Parts.{Parts}
 use Rattle.interp_state.specs.Branches.{Jumps, Repeats}
 use Rattle.interp_state.specs.Steps.{AreNumbered}

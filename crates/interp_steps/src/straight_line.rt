@@ -2,7 +2,7 @@
 ghost use Rattle.std.specs.Prelude.{true, false, ◌≡◌, ◌≢◌, ◌≤◌, ◌<◌, ◌+◌, ◌++◌, ◌∷◌, [], None, IfSome, length, drop, vec_len, vec_capacity};
 ghost use Rattle.laws_reduction.specs.Meaning.{IsOrdered, IsSafeAt, Charged};
 ghost use Rattle.interp_state.specs.Callee.{contract_of, base_of};
-ghost use Rattle.interp_state.specs.Held.{Pushes};
+ghost use Rattle.interp_state.specs.TopmostValues.{Pushes};
 ghost use Rattle.interp_state.specs.Steps.{IsOrderedParts, IsCounted, AreNumbered};
 ghost use Rattle.interp_state.specs.Views.{view, opens_of};
 ghost use Rattle.laws_reduction.specs.Branches.{IsTarget};

@@ -8,7 +8,7 @@ use lib.ListN.{get_elem?}
 use Rattle.crossbeam_queue.specs.Fifo.{Pushes, Pops, Forks}
 use Rattle.lanes.specs.declared.parcel.Parcel.{Parcel}
 use Rattle.lanes.specs.declared.parcel.Parcel.TheVariants.{Key, Item}
-use Rattle.lanes.specs.Agreed.{Fits, FitsView, IsFounded, Agreed}
+use Rattle.lanes.specs.QueueRule.{Fits, FitsView, IsFounded, Agreed}
 
 All-at : {X : Type 0} (P : X → Type 0) (xs : List X) (j : ℕ) (x : X) → get_elem? xs j ≡ some x → All P xs → P x
 All-at P [] j x at all = absurd (some-ne-none x (sym at))

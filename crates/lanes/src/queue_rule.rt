@@ -1,6 +1,6 @@
 //! The rule of the queue, and the names of the steps.
 ghost use Rattle.std.specs.Prelude.{◌≡◌, None};
-ghost use Rattle.lanes.specs.Agreed.{Agreed, known, FitsView};
+ghost use Rattle.lanes.specs.QueueRule.{Agreed, known, FitsView};
 
 use crate::parcel::Parcel;
 use crossbeam_queue::protocol::{Outcome, Protocol, Split};

@@ -16,7 +16,7 @@ use Rattle.spec_execution.specs.Configuration.{Setting, Seq, End, Val, Code, Lab
 use Rattle.spec_execution.specs.Reduction.{reduce, execute, execute_plain, replied}
 use Rattle.spec_execution.specs.Run.{to_add}
 use Rattle.spec_execution.specs.Levels.{Levels, On, alone, move, first_level}
-use Rattle.spec_execution.specs.Turning.{none, one_more, Rests, to_come, ended, not_asked, asked, IsTurn, Turned, opened, turned, IsState}
+use Rattle.spec_execution.specs.CallStates.{none, one_more, Rests, to_come, ended, not_asked, asked, IsTurn, Turned, opened, turned, IsState}
 use Rattle.laws_blocks.specs.CallsWorked.{adds_seven, gives_up, counts, only, at_0, call_with, on_five, on_key_nine, nine, bare, in_run, before_the_sum, after_the_sum, before_the_total}
 
 -- a turn of one charged move alone

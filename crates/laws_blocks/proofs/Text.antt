@@ -10,7 +10,7 @@ use Rattle.spec_text.specs.Lexical as L
 use Rattle.spec_text.specs.Lexical.{Token, Lexes, LexesFrom, IsBlank, IsToken, is_white}
 use Rattle.spec_text.specs.Words as W
 use Rattle.spec_text.specs.Words.{Word, AreWords, IsWord, LeftBracket}
-use Rattle.spec_text.specs.Placed.{Field}
+use Rattle.spec_text.specs.FieldsOfPlaces.{Field}
 use Rattle.spec_text.specs.Grammar.{IsModule, module_is}
 use Rattle.spec_text.specs.Names.{Names}
 

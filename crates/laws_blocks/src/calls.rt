@@ -14,7 +14,7 @@ ghost use Rattle.spec_execution.specs.Configuration.{Trap};
 ghost use Rattle.spec_execution.specs.Exec.{Executes};
 ghost use Rattle.spec_execution.specs.Levels.{Levels, RunsWith, alone};
 ghost use Rattle.spec_execution.specs.Serial.{CallResult, Serial};
-ghost use Rattle.spec_execution.specs.Turning.{IsState};
+ghost use Rattle.spec_execution.specs.CallStates.{IsState};
 ghost use Rattle.spec_text.specs.declared.TokenKind.TheVariants.{Close};
 ghost use Rattle.spec_text.specs.Lexical.{Lexes};
 ghost use Rattle.spec_text.specs.Names.{Names};

@@ -9,7 +9,7 @@ pub mod Items
 pub mod Modules
 pub mod Numbers
 pub mod Parts
-pub mod Spelled
+pub mod ShortestSpellings
 pub mod Spellings
 pub mod Whole
 pub mod ItemBytes

@@ -17,7 +17,7 @@ use Rattle.spec_modules.specs.Opcodes.{type_code}
 use Rattle.spec_modules.specs.Grammar.{expression, vector, name, value_type, func_type, limits_by, limits, table_type, mutability, global_type, import_desc, import, export_desc, export, global, element, data_segment, sized, local_run, all_locals, locals, code}
 use Rattle.spec_modules.specs.Shortest.{u32_bytes, run_bytes, vector_bytes, expression_bytes, byte_bytes, name_bytes, value_type_bytes, func_type_bytes, limits_bytes_by, limits_bytes, table_type_bytes, mutability_byte, global_type_bytes, import_desc_bytes, import_bytes, export_desc_bytes, export_bytes, global_bytes, element_bytes, data_segment_bytes, before_runs, maximal_runs, local_run_bytes, sized_bytes, code_bytes}
 use Rattle.laws_modules.specs.ShortestBytes.{u32_some}
-use Rattle.laws_modules.specs.Spelled.{IsSmall, small_left, small_right, count_spelled, u32_spelled, vector_spelled, expression_spelled}
+use Rattle.laws_modules.specs.ShortestSpellings.{IsSmall, small_left, small_right, count_spelled, u32_spelled, vector_spelled, expression_spelled}
 
 abbrev any : {X : Type 0} → X → Bool
 any x = true

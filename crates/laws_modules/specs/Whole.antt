@@ -12,7 +12,7 @@ use Rattle.spec_modules.specs.Grammar.{vector, header, func_type, import, table_
 use Rattle.spec_modules.specs.Shortest.{u32_bytes, vector_bytes, func_type_bytes, import_bytes, table_type_bytes, limits_bytes, global_type_bytes, global_bytes, export_bytes, element_bytes, code_bytes, data_segment_bytes, expression_bytes, sized_bytes, list_section_bytes, start_bytes, shortest}
 use Rattle.spec_modules.specs.Spells.{InstrLabelsFit, LabelsFit, ExpressionFits, FuncFits, ModuleFits, Spells}
 use Rattle.laws_modules.specs.ShortestBytes.{AreBytes, all_below, join, u32_are_bytes, u32_some}
-use Rattle.laws_modules.specs.Spelled.{IsSmall, small_left, small_right, u32_spelled, vector_spelled}
+use Rattle.laws_modules.specs.ShortestSpellings.{IsSmall, small_left, small_right, u32_spelled, vector_spelled}
 use Rattle.laws_modules.specs.ItemBytes.{func_type_are_bytes, limits_are_bytes, table_type_are_bytes, import_are_bytes, export_are_bytes, global_are_bytes, element_are_bytes, data_are_bytes, code_are_bytes, section_are_bytes, start_are_bytes}
 use Rattle.laws_modules.specs.Modules.{func_type_spelled, limits_spelled, limits_some, table_type_spelled, import_is_named, import_spelled, import_some, export_is_named, export_spelled, export_some, global_spelled, element_spelled, element_some, data_spelled, data_some, code_spelled, code_some, sized_spelled}
 

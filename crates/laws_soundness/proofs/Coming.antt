@@ -17,7 +17,7 @@ use Rattle.spec_execution.specs.Run.{next, IsCharged, Opening, Refused, Opens, a
 use Rattle.spec_execution.specs.Levels.{Level, Levels, Move, On, Host, Over, Nowhere, asked, trap_status, signed_of, no_answer, first_level, back_by, back_to, returned, fallen, entering, by_next, by_config, move, Reached, at_first, moved, replied}
 use Rattle.spec_execution.specs.Places.{StandsAt, body_of, IsPlaced, IsPlacedNext, PlacesAreKept}
 use Rattle.spec_execution.specs.Turns.{place_in}
-use Rattle.laws_soundness.specs.Coming.{ReducesBy, here, behind_value, inside_label, inside_frame, PlacesAreOfWhatComes}
+use Rattle.laws_soundness.specs.NextInstruction.{ReducesBy, here, behind_value, inside_label, inside_frame, PlacesAreOfWhatComes}
 use Rattle.laws_soundness.proofs.Weighing.{weight, free_weight, Lighter, one}
 
 -- ---- what is charged

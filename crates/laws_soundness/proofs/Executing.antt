@@ -18,7 +18,7 @@ use Rattle.spec_typing.specs.Typing.{PlainTyped, InstrTyped, Typed, of}
 use Rattle.spec_typing.specs.Modules.{type_at, func_type_indices, globals}
 use Rattle.spec_execution.specs.Configuration.{Deployed, Contract, Function, function_at, function_type, Seq, End, Val, Free, Label, Invoke, code, values, State, instr_size}
 use Rattle.spec_execution.specs.Reduction.{Next, Goes, Traps, Stuck, with_number, with_value, found, answered, arity, pages, most_pages, with_memory, loaded, stored, grown, same_types, same_function_type, indirect, execute_plain, execute}
-use Rattle.laws_soundness.specs.Typed.{types, Scope, inside_label, context_in, ElementTyped, StateTyped, SeqTyped, NextTyped}
+use Rattle.laws_soundness.specs.ConfigurationTyping.{types, Scope, inside_label, context_in, ElementTyped, StateTyped, SeqTyped, NextTyped}
 
 -- ---- types
 

@@ -17,7 +17,7 @@ use Rattle.spec_execution.specs.Configuration.{Setting, Deployed, Contract, Func
 use Rattle.spec_execution.specs.Reduction.{Of, Ask, Answer, Next, Goes, Traps, Asks, Branches, Returns, Ended, Stuck, same_types, same_function_type}
 use Rattle.spec_execution.specs.Run.{next, IsReply, ContractCall, Opening, Refused, Opens, opening, after_start}
 use Rattle.spec_execution.specs.Levels.{Level, Levels, Move, On, Host, Over, Nowhere, move, by_next, by_config, entering, returned, fallen, back_to, back_by, fresh_level, first_level, asked, by_asked_function, by_asked_export, by_asked_contract, ask_type, level_limit, trap_status, signed_of, no_answer, Reached, at_first, moved, replied}
-use Rattle.laws_soundness.specs.Typed.{types, outermost, StateTyped, SeqTyped, NextTyped, ConfigTyped, LevelTyped, IsWaiting, leaves, AllWait, LevelsTyped}
+use Rattle.laws_soundness.specs.ConfigurationTyping.{types, outermost, StateTyped, SeqTyped, NextTyped, ConfigTyped, LevelTyped, IsWaiting, leaves, AllWait, LevelsTyped}
 use Rattle.laws_soundness.specs.Laws.{AreLinked, DeployedCallsAreSafe, DeployedCallsAreTyped, ResultsAreTyped}
 use Rattle.laws_soundness.proofs.Executing.{same_is, all_at}
 use Rattle.laws_soundness.proofs.Reducing.{steps_typed}

@@ -19,7 +19,7 @@ use Rattle.spec_typing.specs.Laws.{IsFramed}
 use Rattle.spec_execution.specs.Configuration.{Contract, Function, Hosted, Defined, function_at, function_type, Seq, End, Val, Code, Free, Label, Frame, Invoke, code, values, State}
 use Rattle.spec_execution.specs.Reduction.{Next, Goes, Traps, Asks, Branches, Returns, Ended, Stuck, with_values, arity, zero_of, effect_of, replied, invoke, in_label, in_frame, reduce}
 use Rattle.spec_execution.specs.Run.{IsAnswer, to_get, to_has, to_put, to_del, to_add, to_total}
-use Rattle.laws_soundness.specs.Typed.{types, Scope, inside_label, inside_frame, context_in, StateTyped, SeqTyped, NextTyped}
+use Rattle.laws_soundness.specs.ConfigurationTyping.{types, Scope, inside_label, inside_frame, context_in, StateTyped, SeqTyped, NextTyped}
 use Rattle.laws_soundness.specs.Laws.{StepsAreTyped}
 use Rattle.laws_soundness.proofs.Executing.{under, from_is, code_typed, Kept, kept, goes, either, by_some, one}
 use Rattle.laws_soundness.proofs.Functions.{called, IsBody, body_of, result_again, reverse_again, arity_is}

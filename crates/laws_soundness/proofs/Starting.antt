@@ -16,7 +16,7 @@ use Rattle.spec_typing.specs.Linking.{IsLinked}
 use Rattle.spec_modules.specs.Memory.{written}
 use Rattle.spec_execution.specs.Configuration.{Deployed, Contract, Function, Hosted, Defined, function_at, Seq, End, Invoke, arguments, constant, size_of, with_elements, fresh}
 use Rattle.spec_execution.specs.Run.{ContractCall, Refused, Opens, exported, wrong_argument, by_wrong, by_function, by_export, by_contract, after_start}
-use Rattle.laws_soundness.specs.Typed.{types, outermost, ElementTyped, StateTyped, SeqTyped}
+use Rattle.laws_soundness.specs.ConfigurationTyping.{types, outermost, ElementTyped, StateTyped, SeqTyped}
 use Rattle.laws_soundness.proofs.Executing.{from_is, same_is}
 use Rattle.laws_soundness.proofs.Functions.{no_globals, in_range, starts}
 

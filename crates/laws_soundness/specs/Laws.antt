@@ -8,7 +8,7 @@ use Rattle.spec_execution.specs.Configuration.{Setting, Deployed, Contract, Func
 use Rattle.spec_execution.specs.Reduction.{Ended, reduce}
 use Rattle.spec_execution.specs.Run.{ContractCall, opening, Opens, next}
 use Rattle.spec_execution.specs.Levels.{Level, Levels, first_level, Reached, IsSafe}
-use Rattle.laws_soundness.specs.Typed.{types, Scope, StateTyped, SeqTyped, NextTyped, LevelsTyped}
+use Rattle.laws_soundness.specs.ConfigurationTyping.{types, Scope, StateTyped, SeqTyped, NextTyped, LevelsTyped}
 
 -- Progress and preservation: what a typed sequence does next is typed, and so it is not stuck.
 abbrev pub StepsAreTyped : Type 0

@@ -1,4 +1,4 @@
-pub mod Typed
+pub mod ConfigurationTyping
 pub mod Laws
-pub mod Coming
+pub mod NextInstruction
 pub mod Once

@@ -6,7 +6,7 @@ ghost use Rattle.std.specs.Prelude.{ℕ, List};
 ghost use Rattle.spec_ledger.specs.Cells.{Cells};
 ghost use Rattle.spec_execution.specs.Configuration.{Setting};
 ghost use Rattle.spec_execution.specs.Run.{ContractCall};
-ghost use Rattle.laws_soundness.specs.Coming.{PlacesAreOfWhatComes};
+ghost use Rattle.laws_soundness.specs.NextInstruction.{PlacesAreOfWhatComes};
 ghost use Rattle.laws_soundness.specs.Once.{AreNumbersOf, ExecutesOnce, RunsSerially};
 ghost use Rattle.laws_soundness.specs.Laws.{AreLinked, DeployedCallsAreSafe, DeployedCallsAreTyped, ResultsAreTyped, StepsAreTyped};
 

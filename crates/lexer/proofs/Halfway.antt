@@ -7,7 +7,7 @@ use Rattle.spec_text.specs.Words.{Word, IsWord, AreWords, no_word, words}
 use Rattle.lexer.specs.declared.list.Token.{Token}
 use Rattle.lexer.specs.Views as listed
 use Rattle.lexer.specs.Reading.{IntegerIsTested}
-use Rattle.lexer.specs.WordsReading.{word_at}
+use Rattle.lexer.specs.ReadingOfWords.{word_at}
 use Rattle.lexer.proofs.OneWord.{word_is_read, read_is_word}
 
 -- Each token is one of the text format, and what words the rest is completes the words so far.

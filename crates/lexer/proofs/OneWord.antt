@@ -13,7 +13,7 @@ use Rattle.spec_text.specs.Words.{Word, LeftBracket, RightBracket, Key, Op, Offs
 use Rattle.spec_text.specs.declared.TheConstants.{KEY_WORDS, OPERATORS}
 use Rattle.lexer.specs.Reading.{is_integer, IntegerIsTested}
 use Rattle.lexer.specs.Strings.{decoded}
-use Rattle.lexer.specs.WordsReading.{behind, placed_at, with_integer, memarg_at, by_key, by_operator, keyword_at, string_at, word_at, WordsAreOne}
+use Rattle.lexer.specs.ReadingOfWords.{behind, placed_at, with_integer, memarg_at, by_key, by_operator, keyword_at, string_at, word_at, WordsAreOne}
 use Rattle.lexer.proofs.Decoding.{string_is_decoded}
 use Rattle.lexer.proofs.Spellings.{chosen, behind_its_beginning, begins_behind, operator_is_no_key, offset_is_no_key, align_is_no_key, align_is_no_offset}
 

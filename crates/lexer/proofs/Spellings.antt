@@ -10,7 +10,7 @@ use Rattle.spec_text.specs.Words.{beside}
 use Rattle.spec_text.specs.declared.KeyWord.{KeyWord}
 use Rattle.spec_text.specs.declared.Operator.{Operator}
 use Rattle.spec_text.specs.declared.TheConstants.{KEY_WORDS, OPERATORS}
-use Rattle.lexer.specs.WordsReading.{behind}
+use Rattle.lexer.specs.ReadingOfWords.{behind}
 
 pub chosen : {A : Type 0} (t : Bool) (x y z : A) → cond t x y ≡ z → ((t ≡ true) × (x ≡ z)) ⊎ ((t ≡ false) × (y ≡ z))
 chosen true x y z e = inl (refl, e)

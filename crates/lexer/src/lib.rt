@@ -14,7 +14,7 @@ ghost use Rattle.std.specs.Prelude.{◌≡◌, List, ⊤, IfOk, IfErr, length};
 ghost use Rattle.spec_text.specs.Lexical.{Lexes, LexesToOne};
 ghost use Rattle.lexer.specs.Views.{views, SpansRise};
 ghost use Rattle.lexer.specs.declared.LexRefusal.TheVariants.{NoMemory};
-ghost use Rattle.lexer.specs.Refused.{IsRightly};
+ghost use Rattle.lexer.specs.Refusals.{IsRightly};
 ghost use Rattle.lexer.specs.Reading.{IntegerIsTested};
 
 pub use list::{Token, Tokens};

@@ -4,8 +4,8 @@ ghost use Rattle.spec_text.specs.Lexical.{Lexes};
 ghost use Rattle.spec_text.specs.Words.{AreWords, OffsetIs, AlignIs};
 ghost use Rattle.lexer.specs.Views as listed;
 ghost use Rattle.lexer.specs.WordsViews.{view, views};
-ghost use Rattle.lexer.specs.WordsReading.{seen, left, behind, memarg_at, keyword_at, string_at, word_at, WordsAreOne};
-ghost use Rattle.lexer.specs.WordsRefused.{IsRightly};
+ghost use Rattle.lexer.specs.ReadingOfWords.{seen, left, behind, memarg_at, keyword_at, string_at, word_at, WordsAreOne};
+ghost use Rattle.lexer.specs.WordRefusals.{IsRightly};
 
 use crate::refusal::TextRefusal;
 use crate::word::{Piece, Word};

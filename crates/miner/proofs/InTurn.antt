@@ -8,7 +8,7 @@ use Rattle.spec_execution.specs.Run.{ContractCall}
 use Rattle.spec_execution.specs.Serial.{Serial}
 use Rattle.interp.specs.Callee.{setting_view}
 use Rattle.serial.specs.Positions.{results_of}
-use Rattle.serial.specs.Ordered.{fuel_of_receipts}
+use Rattle.serial.specs.OrderOutcomes.{fuel_of_receipts}
 use Rattle.serial.proofs.BlocksLimits.{used_within, fuel_is}
 use Rattle.publish.specs.Publication.{limits, fuel_of_results}
 use Rattle.in_order.specs.declared.InOrder.{InOrder}

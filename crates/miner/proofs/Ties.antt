@@ -8,7 +8,7 @@ use Rattle.spec_ledger.specs.Book.{CommittedCall}
 use Rattle.spec_ledger.specs.Modes.{Modes, touched}
 use Rattle.spec_execution.specs.Configuration.{Setting}
 use Rattle.spec_execution.specs.Run.{ContractCall}
-use Rattle.interp.specs.Played.{Played}
+use Rattle.interp.specs.FinishedCalls.{Played}
 use Rattle.publish.specs.Publication.{Publication}
 use Rattle.publish.specs.declared.adopting.CallRun.{CallRun}
 use Rattle.publish.specs.Adoption.{IsMade, AreMade}

@@ -6,7 +6,7 @@ ghost use Rattle.spec_execution.specs.Serial.{Serial};
 ghost use Rattle.spec_ledger.specs.declared.Version.TheVariants.{Two};
 ghost use Rattle.interp.specs.Callee.{setting_view};
 ghost use Rattle.serial.specs.Positions.{results_of};
-ghost use Rattle.serial.specs.Ordered.{fuel_of_receipts};
+ghost use Rattle.serial.specs.OrderOutcomes.{fuel_of_receipts};
 ghost use Rattle.publish.specs.Publication.{AreLeft, limits, fuel_of_results};
 
 use crate::mined_core::MinedCore;

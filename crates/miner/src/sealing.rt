@@ -5,7 +5,7 @@ ghost use Rattle.sha2.specs.Sha256.{sha256};
 ghost use Rattle.spec_block.specs.Blocks.{block_of, fuel_of, positions as positions_by, world_after};
 ghost use Rattle.spec_block.specs.Bytes.{calls_bytes, world_bytes};
 ghost use Rattle.serial.specs.Positions.{results_of};
-ghost use Rattle.serial.specs.Ordered.{ArePossible};
+ghost use Rattle.serial.specs.OrderOutcomes.{ArePossible};
 ghost use Rattle.world.specs.Views.{world_view};
 
 use block::{Block, Position, digest_calls};

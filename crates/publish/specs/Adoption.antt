@@ -5,7 +5,7 @@ use Rattle.spec_ledger.specs.Modes.{Modes, touched}
 use Rattle.spec_execution.specs.Configuration.{Setting}
 use Rattle.spec_execution.specs.Run.{ContractCall}
 use Rattle.spec_execution.specs.Serial.{CallResult}
-use Rattle.interp.specs.Played.{receipt_of}
+use Rattle.interp.specs.FinishedCalls.{receipt_of}
 use Rattle.publish.specs.declared.adopting.CallRun.{CallRun}
 use Rattle.publish.specs.Publication.{HasRoom}
 

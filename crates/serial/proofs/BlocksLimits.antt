@@ -13,7 +13,7 @@ use Rattle.spec_block.specs.Worlds.{limits}
 use Rattle.spec_block.specs.Blocks.{fuel_of}
 use Rattle.serial.specs.Positions.{results_of}
 use Rattle.serial.proofs.Limits.{limit_at, executes_within}
-use Rattle.serial.specs.Ordered.{fuel_of_receipts}
+use Rattle.serial.specs.OrderOutcomes.{fuel_of_receipts}
 
 abbrev pub used_in : List CallResult → ℕ
 used_in rs = sum_by (λ (r : CallResult). r.receipt.used) rs

@@ -20,7 +20,7 @@ use Rattle.spec_execution.specs.Run.{next, ContractCall, Opening, Refused, Opens
 use Rattle.spec_execution.specs.Levels.{Level, Levels, Move, Over, back_by, back_to, returned, fallen, signed_of, no_answer, trap_status, entering, asked, wished, by_next, by_config, Ends, over, exhausted, RunsWith, refused, ran}
 use Rattle.spec_execution.specs.Serial.{Serial}
 use Rattle.serial.specs.Positions.{results_of}
-use Rattle.serial.specs.Ordered.{IsPossible, ArePossible}
+use Rattle.serial.specs.OrderOutcomes.{IsPossible, ArePossible}
 
 abbrev HasCause : Opening → Type 0
 HasCause (Refused code) = IsPossible (Rejected code)

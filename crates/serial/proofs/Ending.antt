@@ -16,7 +16,7 @@ use Rattle.spec_execution.specs.Configuration.{Setting}
 use Rattle.spec_execution.specs.Run.{ContractCall}
 use Rattle.spec_execution.specs.Levels.{RunsWith}
 use Rattle.spec_execution.specs.Exec.{Executes}
-use Rattle.interp.specs.Played.{Played, IsPlayed, receipt_of}
+use Rattle.interp.specs.FinishedCalls.{Played, IsPlayed, receipt_of}
 use Rattle.serial.specs.Playing.{AreDone, IsPlayedOver}
 use Rattle.serial.specs.Runs.{IsRunOf}
 

@@ -9,7 +9,7 @@ use Rattle.spec_ledger.specs.Book.{has_returned}
 use Rattle.spec_execution.specs.Configuration.{Setting}
 use Rattle.spec_execution.specs.Run.{ContractCall}
 use Rattle.spec_execution.specs.Exec.{Executes}
-use Rattle.interp.specs.Played.{Played, IsPlayed, receipt_of}
+use Rattle.interp.specs.FinishedCalls.{Played, IsPlayed, receipt_of}
 use Rattle.serial.proofs.Ending.{executed, undone}
 use Rattle.serial.specs.declared.touches.Touch.{Touch}
 use Rattle.serial.specs.Behind.{behind}

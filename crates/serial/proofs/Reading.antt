@@ -17,7 +17,7 @@ use Rattle.spec_ledger.proofs.Maps.{get-set_at, is_key, lock_cmp_total, lock_cmp
 use Rattle.spec_execution.specs.ReadWriteSets.{access_at, access_by, use_of}
 use Rattle.lock_profile.proofs.Groups.{find_below, left, right}
 use Rattle.serial.specs.declared.touches.Touch.{Touch}
-use Rattle.serial.specs.Found.{IsFoundBy}
+use Rattle.serial.specs.FoundCells.{IsFoundBy}
 use Rattle.serial.specs.Touches.{AreFoundBy, found_in, modes_of}
 use Rattle.serial.proofs.Places.{get_written, written}
 

@@ -7,7 +7,7 @@ use Rattle.spec_ledger.specs.Cells.{lock_cmp, map_at, counter_at}
 use Rattle.spec_ledger.specs.Modes.{Modes}
 use Rattle.spec_execution.specs.declared.footprints.Access.TheVariants.{Read, Added, Replaced}
 use Rattle.spec_execution.specs.ReadWriteSets.{access_at}
-use Rattle.serial.specs.Found.{IsFoundBy}
+use Rattle.serial.specs.FoundCells.{IsFoundBy}
 use Rattle.serial.specs.Touches.{AreAccessesAt, IsCellAt}
 
 abbrev none : Modes

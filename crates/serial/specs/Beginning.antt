@@ -2,7 +2,7 @@
 use Rattle.std.specs.Prelude.{◌≡◌, ◌⊎◌, []}
 use Rattle.spec_execution.specs.Configuration.{Setting}
 use Rattle.spec_execution.specs.Run.{ContractCall}
-use Rattle.interp.specs.Played.{Played}
+use Rattle.interp.specs.FinishedCalls.{Played}
 use Rattle.interp.specs.Progress.{Progress}
 use Rattle.interp.specs.Starting.{IsRejection, IsWithoutFuel}
 use Rattle.serial.specs.declared.beginning.Begun.{Begun}

@@ -3,10 +3,10 @@ pub mod Playing
 pub mod Positions
 pub mod Beginning
 pub mod MachineProgress
-pub mod Ordered
+pub mod OrderOutcomes
 pub mod Runs
 pub mod Over
 pub mod Behind
-pub mod Found
+pub mod FoundCells
 pub mod Touches
 pub mod Calls

@@ -8,7 +8,7 @@ use Rattle.storage.specs.Counts.{Store}
 use Rattle.storage.specs.Counts.{opened_all}
 use Rattle.spec_execution.specs.Configuration.{Setting}
 use Rattle.spec_execution.specs.Run.{ContractCall}
-use Rattle.interp.specs.Played.{Played}
+use Rattle.interp.specs.FinishedCalls.{Played}
 use Rattle.spec_ledger.specs.declared.TraceStep.{TraceStep}
 
 -- the steps of a trace got their replies from the cells at the start, which they made these, and the inverses of what stands are these

@@ -12,7 +12,7 @@ use Rattle.spec_execution.specs.declared.footprints.Access.{Access}
 use Rattle.spec_execution.specs.ReadWriteSets.{access_at, access_by, use_of}
 use Rattle.spec_execution.specs.Configuration.{Setting}
 use Rattle.spec_execution.specs.Run.{ContractCall}
-use Rattle.interp.specs.Played.{Played}
+use Rattle.interp.specs.FinishedCalls.{Played}
 use Rattle.storage.specs.Counts.{Store, opened_all}
 use Rattle.serial.specs.Playing.{AreDoneInLevels}
 use Rattle.serial.specs.declared.touches.Touch.{Touch}

@@ -9,7 +9,7 @@ ghost use Rattle.spec_block.specs.Worlds.{limits};
 ghost use Rattle.spec_block.specs.Blocks.{block_of, world_after};
 ghost use Rattle.serial.specs.Positions.{results_of};
 ghost use Rattle.world.specs.Views.{world_view};
-ghost use Rattle.serial.specs.Ordered.{ArePossible, IsOutcomeOf, fuel_of_receipts};
+ghost use Rattle.serial.specs.OrderOutcomes.{ArePossible, IsOutcomeOf, fuel_of_receipts};
 
 use crate::positions::{fuel_of, positions_of};
 use crate::{Core, serial_core};

@@ -8,7 +8,7 @@ ghost use Rattle.spec_ledger.specs.declared.Lock.{Lock};
 ghost use Rattle.spec_execution.specs.ReadWriteSets.{IsReadWriteSet};
 ghost use Rattle.interp.specs.Callee.{setting_view};
 ghost use Rattle.serial.specs.Behind.{behind};
-ghost use Rattle.serial.specs.Found.{IsFoundBy};
+ghost use Rattle.serial.specs.FoundCells.{IsFoundBy};
 ghost use Rattle.serial.specs.Touches.{AreAccessesAt, IsCellAt};
 
 use crate::Executed;

@@ -4,7 +4,7 @@ ghost use Rattle.std.specs.Prelude.{◌≡◌, ◌≤◌, ◌<◌, ◌^◌, IfOk
 ghost use Rattle.spec_block.specs.Blocks.{positions};
 ghost use Rattle.serial.specs.Positions.{results_of};
 ghost use Rattle.spec_block.specs.Bytes.{IsOutcome};
-ghost use Rattle.serial.specs.Ordered.{ArePossible, IsPossible, fuel_of_receipts};
+ghost use Rattle.serial.specs.OrderOutcomes.{ArePossible, IsPossible, fuel_of_receipts};
 
 use block::Position;
 use lock_profile::{Profile, Touched, turns};

@@ -6,7 +6,7 @@ use Rattle.spec_ledger.specs.Book.{Attempt, Content, AreSideBySide, AreAllSideBy
 use Rattle.spec_ledger.specs.Events.{IsFound, IsNotEntered, IsOther, IsStale, HasNoAttempt}
 use Rattle.spec_ledger.proofs.Kept.{All-at}
 use Rattle.spec_ledger.proofs.Traces.{All-weaken}
-use Rattle.boost.specs.Numbered.{HasTrace}
+use Rattle.boost.specs.AttemptNumbers.{HasTrace}
 use Rattle.boost.proofs.Events.{found_not_stale}
 
 -- what is not refuted of a list holds, where it denies something of each

@@ -12,7 +12,7 @@ use Rattle.spec_ledger.specs.Book.{Content, call_is_new}
 use Rattle.spec_ledger.specs.Events.{HasNoAttempt, IsConflict, IsFound, IsStale, OpDone}
 use Rattle.boost.specs.declared.book.OpRefusal.{OpRefusal}
 use Rattle.boost.specs.declared.book.OpRefusal.TheVariants.{Conflict, Stale, NoMemory}
-use Rattle.boost.specs.Numbered.{BegunAs, BegunWith}
+use Rattle.boost.specs.AttemptNumbers.{BegunAs, BegunWith}
 use Rattle.boost.proofs.Events.{found_not_stale}
 use Rattle.sharding.specs.Shard.{HasToWait, IsBehind, IsOver, IsReady, IsShard}
 use Rattle.sharding.proofs.Tickets.{none_stale}

@@ -9,7 +9,7 @@ use Rattle.spec_ledger.specs.declared.TraceStep.{TraceStep}
 use Rattle.spec_ledger.specs.Book.{Content, call_is_new}
 use Rattle.spec_ledger.specs.Codes.{coded_content}
 use Rattle.spec_ledger.specs.Events.{HasNoAttempt, IsConflict, IsStale}
-use Rattle.boost.specs.Numbered.{BegunWith}
+use Rattle.boost.specs.AttemptNumbers.{BegunWith}
 
 -- the book of a shard, and for each of its entries the position in the journal
 pub record Shard : Type 0 where

@@ -3,7 +3,7 @@ ghost use Rattle.std.specs.Prelude.{◌≡◌, ◌≢◌, ◌+◌, ◌≤◌, �
 ghost use Rattle.spec_ledger.specs.Book.{Content};
 ghost use Rattle.spec_ledger.specs.Events.{IsConflict, OpDone};
 ghost use Rattle.spec_ledger.specs.Modes.{ops_of};
-ghost use Rattle.boost.specs.Numbered.{BegunAs, BegunWith};
+ghost use Rattle.boost.specs.AttemptNumbers.{BegunAs, BegunWith};
 
 use boost::book::{Book, OpRefusal, Ticket};
 use spec_ledger::{Op, Reply, TraceStep};

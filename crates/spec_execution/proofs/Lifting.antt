@@ -13,7 +13,7 @@ use Rattle.spec_execution.specs.Reduction.{Of, Next, Goes, Traps, Asks, Branches
 use Rattle.spec_execution.specs.Run.{next, IsCharged, IsStuck, IsReply, Reduces, goes, traps, result_of}
 use Rattle.spec_execution.specs.Turns as one
 use Rattle.spec_execution.specs.Levels.{Level, Levels, On, Nowhere, alone, by_next, move, IsChargedMove, Reached, moved, replied, Ends, over, exhausted, IsRun, IsSafe}
-use Rattle.spec_execution.specs.Turning.{FreeMoves, none, one_more, Rests, to_come, ended}
+use Rattle.spec_execution.specs.CallStates.{FreeMoves, none, one_more, Rests, to_come, ended}
 
 -- the level with another configuration, among the same ones
 abbrev pub at : Level → Config → Level

@@ -3,7 +3,7 @@ pub mod Reduction
 pub mod Run
 pub mod Levels
 pub mod Turns
-pub mod Turning
+pub mod CallStates
 pub mod Walk
 pub mod Unique
 pub mod Codes

@@ -17,7 +17,7 @@ use Rattle.spec_text.specs.Lexical as L
 use Rattle.spec_text.specs.Lexical.{Token, Lexes, LexesFrom, IsLongest, is_idchar}
 use Rattle.spec_text.specs.Words as W
 use Rattle.spec_text.specs.Words.{Word, AreWords, LeftBracket, RightBracket, Key, Op, Number}
-use Rattle.spec_text.specs.Placed as N
+use Rattle.spec_text.specs.FieldsOfPlaces as N
 use Rattle.spec_text.specs.Grammar as G
 use Rattle.spec_text.specs.Spaces as X
 use Rattle.spec_text.specs.TypeUses as U

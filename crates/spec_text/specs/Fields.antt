@@ -4,8 +4,8 @@ use Rattle.std.specs.List.{flat_map, filter_map}
 use Rattle.wtypes.specs.declared.ValType.{ValType}
 use Rattle.spec_modules.specs.Syntax as S
 use Rattle.spec_modules.specs.Syntax.{Instrs, FuncType, GlobalType, Module}
-use Rattle.spec_text.specs.Named
-use Rattle.spec_text.specs.Named.{Index, Binding, TypeUse, Flat, Field, TypeField, ImportField, FuncField, TableField, MemoryField, GlobalField, ExportField, StartField, ElemField, DataField, FuncDesc, TableDesc, MemoryDesc, GlobalDesc}
+use Rattle.spec_text.specs.FieldsOfBytes
+use Rattle.spec_text.specs.FieldsOfBytes.{Index, Binding, TypeUse, Flat, Field, TypeField, ImportField, FuncField, TableField, MemoryField, GlobalField, ExportField, StartField, ElemField, DataField, FuncDesc, TableDesc, MemoryDesc, GlobalDesc}
 use Rattle.spec_text.specs.Numbers.{IsU32}
 use Rattle.spec_text.specs.Spaces.{Names, Spaces, Stands, AreDistinct}
 use Rattle.spec_text.specs.TypeUses.{types_of, names_of, Uses, inline_of_field, Adds}
@@ -55,33 +55,33 @@ pub record AreSpaces (fields : List Field) (s : Spaces) : Type 0 where
 -- ---- the parts of a module
 
 -- 6.4.4: limits
-pub data IsLimits : Named.Bounds → S.Limits → Type 0 where
+pub data IsLimits : FieldsOfBytes.Bounds → S.Limits → Type 0 where
   -- n:u32 ⇒ {min n, max ε}
   from_minimum : {min : List ℕ} {m : ℕ} → IsU32 min m → IsLimits (record { min = min; max = None }) (record { min = m; max = None })
   -- n:u32 m:u32 ⇒ {min n, max m}
   between : {min max : List ℕ} {m n : ℕ} → IsU32 min m → IsU32 max n → IsLimits (record { min = min; max = Some max }) (record { min = m; max = Some n })
 
 -- 6.6.4: importdesc_I
-pub data IsDesc (s : Spaces) : Named.Desc → S.ImportDesc → Type 0 where
+pub data IsDesc (s : Spaces) : FieldsOfBytes.Desc → S.ImportDesc → Type 0 where
   -- '(' 'func' id? x,I′:typeuse_I ')' ⇒ func x
   func : {w : TypeUse} {i : ℕ} {ns : Names} → Uses s.type_names s.types w i ns → IsDesc s (FuncDesc w) (S.ImportFunc i)
   -- '(' 'table' id? tt:tabletype ')' ⇒ table tt
-  table : {b : Named.Bounds} {l : S.Limits} → IsLimits b l → IsDesc s (TableDesc b) (S.ImportTable l)
+  table : {b : FieldsOfBytes.Bounds} {l : S.Limits} → IsLimits b l → IsDesc s (TableDesc b) (S.ImportTable l)
   -- '(' 'memory' id? mt:memtype ')' ⇒ mem mt
-  memory : {b : Named.Bounds} {l : S.Limits} → IsLimits b l → IsDesc s (MemoryDesc b) (S.ImportMemory l)
+  memory : {b : FieldsOfBytes.Bounds} {l : S.Limits} → IsLimits b l → IsDesc s (MemoryDesc b) (S.ImportMemory l)
   -- '(' 'global' id? gt:globaltype ')' ⇒ global gt
   global : {t : GlobalType} → IsDesc s (GlobalDesc t) (S.ImportGlobal t)
 
 -- 6.6.9: exportdesc_I
-pub data IsExport (s : Spaces) : Named.Kind → Index → S.ExportDesc → Type 0 where
+pub data IsExport (s : Spaces) : FieldsOfBytes.Kind → Index → S.ExportDesc → Type 0 where
   -- '(' 'func' x:funcidx_I ')' ⇒ func x
-  func : {i : Index} {n : ℕ} → Stands s.funcs i n → IsExport s Named.OfFunc i (S.ExportFunc n)
+  func : {i : Index} {n : ℕ} → Stands s.funcs i n → IsExport s FieldsOfBytes.OfFunc i (S.ExportFunc n)
   -- '(' 'table' x:tableidx_I ')' ⇒ table x
-  table : {i : Index} {n : ℕ} → Stands s.tables i n → IsExport s Named.OfTable i (S.ExportTable n)
+  table : {i : Index} {n : ℕ} → Stands s.tables i n → IsExport s FieldsOfBytes.OfTable i (S.ExportTable n)
   -- '(' 'memory' x:memidx_I ')' ⇒ mem x
-  memory : {i : Index} {n : ℕ} → Stands s.memories i n → IsExport s Named.OfMemory i (S.ExportMemory n)
+  memory : {i : Index} {n : ℕ} → Stands s.memories i n → IsExport s FieldsOfBytes.OfMemory i (S.ExportMemory n)
   -- '(' 'global' x:globalidx_I ')' ⇒ global x
-  global : {i : Index} {n : ℕ} → Stands s.globals i n → IsExport s Named.OfGlobal i (S.ExportGlobal n)
+  global : {i : Index} {n : ℕ} → Stands s.globals i n → IsExport s FieldsOfBytes.OfGlobal i (S.ExportGlobal n)
 
 -- 6.6.13: from function number f on, the fields make these parts of a module, put together in the order of the text (m₁ ⊕ m₂). Imports stand
 -- before all functions, tables, memories and globals, and start at most once: start is empty, and imports too, in what follows.
@@ -91,7 +91,7 @@ pub data Makes (s : Spaces) : (fs : List Field) (f : ℕ) → Module → Type 0 
   -- 6.6.2: type ::= '(' 'type' id? ft:functype ')' ⇒ ft: it stands in the types of I
   type : {fs : List Field} {f : ℕ} {m : Module} {name : Option (List ℕ)} {ps : List Binding} {rs : List ValType} → Makes s fs f m → Makes s (TypeField name ps rs ∷ fs) f m
   -- 6.6.4: import_I ::= '(' 'import' mod:name nm:name d:importdesc_I ')' ⇒ {module mod, name nm, desc d}
-  import : {fs : List Field} {f : ℕ} {m : Module} {from_module item : List ℕ} {name : Option (List ℕ)} {desc : Named.Desc} {d : S.ImportDesc} → IsDesc s desc d → Makes s fs f m
+  import : {fs : List Field} {f : ℕ} {m : Module} {from_module item : List ℕ} {name : Option (List ℕ)} {desc : FieldsOfBytes.Desc} {d : S.ImportDesc} → IsDesc s desc d → Makes s fs f m
       → Makes s (ImportField from_module item name desc ∷ fs) f (record m { imports = record { from_module = from_module; name = item; desc = d } ∷ m.imports })
   -- 6.6.5: func_I ::= '(' 'func' id? x,I′:typeuse_I (t:local)* (in:instr_I″)* ')' ⇒ {type x, locals t*, body in* end}
   -- (if I″ = I ⊕ I′ ⊕ {locals id(local)*} well-formed); an inline export is an export of it, in the order of the text
@@ -100,16 +100,16 @@ pub data Makes (s : Spaces) : (fs : List Field) (f : ℕ) → Module → Type 0 
       → Makes s (FuncField name items w locals flats ∷ fs) f
       (record m { funcs = record { type_index = i; locals = types_of locals; body = body } ∷ m.funcs; exports = map (λ item. record { name = item; desc = S.ExportFunc f }) items ++ m.exports })
   -- 6.6.6: table_I ::= '(' 'table' id? tt:tabletype ')' ⇒ {type tt}
-  table : {fs : List Field} {f : ℕ} {m : Module} {name : Option (List ℕ)} {b : Named.Bounds} {l : S.Limits} → m.imports ≡ [] → IsLimits b l → Makes s fs f m
+  table : {fs : List Field} {f : ℕ} {m : Module} {name : Option (List ℕ)} {b : FieldsOfBytes.Bounds} {l : S.Limits} → m.imports ≡ [] → IsLimits b l → Makes s fs f m
       → Makes s (TableField name b ∷ fs) f (record m { tables = l ∷ m.tables })
   -- 6.6.7: mem_I ::= '(' 'memory' id? mt:memtype ')' ⇒ {type mt}
-  memory : {fs : List Field} {f : ℕ} {m : Module} {name : Option (List ℕ)} {b : Named.Bounds} {l : S.Limits} → m.imports ≡ [] → IsLimits b l → Makes s fs f m
+  memory : {fs : List Field} {f : ℕ} {m : Module} {name : Option (List ℕ)} {b : FieldsOfBytes.Bounds} {l : S.Limits} → m.imports ≡ [] → IsLimits b l → Makes s fs f m
       → Makes s (MemoryField name b ∷ fs) f (record m { memories = l ∷ m.memories })
   -- 6.6.8: global_I ::= '(' 'global' id? gt:globaltype e:expr_I ')' ⇒ {type gt, init e}, where expr_I ::= (in:instr_I)* ⇒ in* end (6.5.8)
   global : {fs : List Field} {f : ℕ} {m : Module} {name : Option (List ℕ)} {t : GlobalType} {flats : List Flat} {init : Instrs} → m.imports ≡ [] → Body s [] [] flats [] init → Makes s fs f m
       → Makes s (GlobalField name t flats ∷ fs) f (record m { globals = record { type = t; init = init } ∷ m.globals })
   -- 6.6.9: export_I ::= '(' 'export' nm:name d:exportdesc_I ')' ⇒ {name nm, desc d}
-  export : {fs : List Field} {f : ℕ} {m : Module} {item : List ℕ} {kind : Named.Kind} {i : Index} {d : S.ExportDesc} → IsExport s kind i d → Makes s fs f m
+  export : {fs : List Field} {f : ℕ} {m : Module} {item : List ℕ} {kind : FieldsOfBytes.Kind} {i : Index} {d : S.ExportDesc} → IsExport s kind i d → Makes s fs f m
       → Makes s (ExportField item kind i ∷ fs) f (record m { exports = record { name = item; desc = d } ∷ m.exports })
   -- 6.6.10: start_I ::= '(' 'start' x:funcidx_I ')' ⇒ {func x}
   start : {fs : List Field} {f n : ℕ} {m : Module} {i : Index} → m.start ≡ None → Stands s.funcs i n → Makes s fs f m → Makes s (StartField i ∷ fs) f (record m { start = Some n })

@@ -11,8 +11,8 @@ use Rattle.spec_modules.specs.Syntax.{Instr, Instrs}
 use Rattle.spec_modules.specs.Storage.{load_width, store_width}
 use Rattle.spec_text.specs.declared.Operator.{Operator}
 use Rattle.spec_text.specs.declared.Operator.TheVariants as o
-use Rattle.spec_text.specs.Named
-use Rattle.spec_text.specs.Named.{Index, TypeUse, Flat}
+use Rattle.spec_text.specs.FieldsOfBytes
+use Rattle.spec_text.specs.FieldsOfBytes.{Index, TypeUse, Flat}
 use Rattle.spec_text.specs.Numbers.{IsU32, IsConstant}
 use Rattle.spec_text.specs.Spaces.{Names, Spaces, Stands}
 use Rattle.spec_text.specs.TypeUses.{Uses}
@@ -78,20 +78,20 @@ pub data AllStand (names : Names) : List Index → List ℕ → Type 0 where
 -- A flat instruction that holds no other is this instruction (6.5.2 to 6.5.6: plaininstr_I).
 pub data Becomes (s : Spaces) (locals labels : Names) : Flat → Instr → Type 0 where
   -- 'nop' ⇒ nop, and so for each other name with nothing after it
-  simply : {op : Operator} {i : PlainInstr} → simple op ≡ Some i → Becomes s locals labels (Named.Simple op) (S.Plain i)
+  simply : {op : Operator} {i : PlainInstr} → simple op ≡ Some i → Becomes s locals labels (FieldsOfBytes.Simple op) (S.Plain i)
   -- 'br' l:labelidx_I ⇒ br l, and so for each other name with one index
   with_index : {op : Operator} {space : Space} {make : ℕ → PlainInstr} {i : Index} {n : ℕ} → indexed op ≡ Some (space, make) → Stands (names_in s locals labels space) i n
-      → Becomes s locals labels (Named.Indexed op i) (S.Plain (make n))
+      → Becomes s locals labels (FieldsOfBytes.Indexed op i) (S.Plain (make n))
   -- 'br_table' l*:vec(labelidx_I) l_N:labelidx_I ⇒ br_table l* l_N
-  br_table : {is : List Index} {last : Index} {ns : List ℕ} {n : ℕ} → AllStand labels is ns → Stands labels last n → Becomes s locals labels (Named.BrTable is last) (S.BrTable ns n)
+  br_table : {is : List Index} {last : Index} {ns : List ℕ} {n : ℕ} → AllStand labels is ns → Stands labels last n → Becomes s locals labels (FieldsOfBytes.BrTable is last) (S.BrTable ns n)
   -- 'call_indirect' x,I′:typeuse_I ⇒ call_indirect x
-  call_indirect : {w : TypeUse} {i : ℕ} {ns : Names} → Uses s.type_names s.types w i ns → Becomes s locals labels (Named.CallIndirect w) (S.Plain (P.CallIndirect i))
+  call_indirect : {w : TypeUse} {i : ℕ} {ns : Names} → Uses s.type_names s.types w i ns → Becomes s locals labels (FieldsOfBytes.CallIndirect w) (S.Plain (P.CallIndirect i))
   -- 'i32.load' m:memarg₄ ⇒ i32.load m, and so for each other load
-  load : {op : LoadOp} {offset align : Option (List ℕ)} {o a : ℕ} → OffsetOf offset o → AlignOf (load_width op) align a → Becomes s locals labels (Named.Load op offset align) (S.Plain (P.Load op a o))
+  load : {op : LoadOp} {offset align : Option (List ℕ)} {o a : ℕ} → OffsetOf offset o → AlignOf (load_width op) align a → Becomes s locals labels (FieldsOfBytes.Load op offset align) (S.Plain (P.Load op a o))
   -- 'i32.store' m:memarg₄ ⇒ i32.store m, and so for each other store
-  store : {op : StoreOp} {offset align : Option (List ℕ)} {o a : ℕ} → OffsetOf offset o → AlignOf (store_width op) align a → Becomes s locals labels (Named.Store op offset align) (S.Plain (P.Store op a o))
+  store : {op : StoreOp} {offset align : Option (List ℕ)} {o a : ℕ} → OffsetOf offset o → AlignOf (store_width op) align a → Becomes s locals labels (FieldsOfBytes.Store op offset align) (S.Plain (P.Store op a o))
   -- 'i32.const' n:i32 ⇒ i32.const n, 'i64.const' n:i64 ⇒ i64.const n
-  const : {t : ValType} {text : List ℕ} {c : Value} → IsConstant t text c → Becomes s locals labels (Named.Const t text) (S.Plain (P.Const c))
+  const : {t : ValType} {text : List ℕ} {c : Value} → IsConstant t text c → Becomes s locals labels (FieldsOfBytes.Const t text) (S.Plain (P.Const c))
 
 -- 6.5.2: after 'end' and 'else' stands no name, or the label's (if id? = ε ∨ id? = label)
 pub data Closes : (label closing : Option (List ℕ)) → Type 0 where
@@ -107,17 +107,17 @@ pub data Body (s : Spaces) (locals : Names) : (labels : Names) (fs gs : List Fla
   plain : {labels : Names} {f : Flat} {i : Instr} {fs gs : List Flat} {is : Instrs} → Becomes s locals labels f i → Body s locals labels fs gs is → Body s locals labels (f ∷ fs) gs (S.seq i is)
   -- 'block' I′:label_I [t?]:resulttype (in:instr_I′)* 'end' id? ⇒ block [t?] in* end, and more
   block : {labels : Names} {label closing : Option (List ℕ)} {result : Option ValType} {fs hs gs : List Flat} {body is : Instrs}
-      → Body s locals (label ∷ labels) fs (Named.End closing ∷ hs) body → Closes label closing → Body s locals labels hs gs is
-      → Body s locals labels (Named.Opens Named.Block label result ∷ fs) gs (S.seq (S.Block result body) is)
+      → Body s locals (label ∷ labels) fs (FieldsOfBytes.End closing ∷ hs) body → Closes label closing → Body s locals labels hs gs is
+      → Body s locals labels (FieldsOfBytes.Opens FieldsOfBytes.Block label result ∷ fs) gs (S.seq (S.Block result body) is)
   -- 'loop' I′:label_I [t?]:resulttype (in:instr_I′)* 'end' id? ⇒ loop [t?] in* end, and more
   loop : {labels : Names} {label closing : Option (List ℕ)} {result : Option ValType} {fs hs gs : List Flat} {body is : Instrs}
-      → Body s locals (label ∷ labels) fs (Named.End closing ∷ hs) body → Closes label closing → Body s locals labels hs gs is
-      → Body s locals labels (Named.Opens Named.Loop label result ∷ fs) gs (S.seq (S.Loop result body) is)
+      → Body s locals (label ∷ labels) fs (FieldsOfBytes.End closing ∷ hs) body → Closes label closing → Body s locals labels hs gs is
+      → Body s locals labels (FieldsOfBytes.Opens FieldsOfBytes.Loop label result ∷ fs) gs (S.seq (S.Loop result body) is)
   -- 'if' I′:label_I [t?]:resulttype (in:instr_I′)* 'end' id? ⇒ if [t?] in* else end, and more
   if_then : {labels : Names} {label closing : Option (List ℕ)} {result : Option ValType} {fs hs gs : List Flat} {body is : Instrs}
-      → Body s locals (label ∷ labels) fs (Named.End closing ∷ hs) body → Closes label closing → Body s locals labels hs gs is
-      → Body s locals labels (Named.Opens Named.If label result ∷ fs) gs (S.seq (S.If result body S.nothing) is)
+      → Body s locals (label ∷ labels) fs (FieldsOfBytes.End closing ∷ hs) body → Closes label closing → Body s locals labels hs gs is
+      → Body s locals labels (FieldsOfBytes.Opens FieldsOfBytes.If label result ∷ fs) gs (S.seq (S.If result body S.nothing) is)
   -- 'if' I′:label_I [t?]:resulttype (in₁:instr_I′)* 'else' id₁? (in₂:instr_I′)* 'end' id₂? ⇒ if [t?] in₁* else in₂* end, and more
   if_else : {labels : Names} {label other closing : Option (List ℕ)} {result : Option ValType} {fs es hs gs : List Flat} {body else_body is : Instrs}
-      → Body s locals (label ∷ labels) fs (Named.Else other ∷ es) body → Closes label other → Body s locals (label ∷ labels) es (Named.End closing ∷ hs) else_body → Closes label closing
-      → Body s locals labels hs gs is → Body s locals labels (Named.Opens Named.If label result ∷ fs) gs (S.seq (S.If result body else_body) is)
+      → Body s locals (label ∷ labels) fs (FieldsOfBytes.Else other ∷ es) body → Closes label other → Body s locals (label ∷ labels) es (FieldsOfBytes.End closing ∷ hs) else_body → Closes label closing
+      → Body s locals labels hs gs is → Body s locals labels (FieldsOfBytes.Opens FieldsOfBytes.If label result ∷ fs) gs (S.seq (S.If result body else_body) is)

@@ -5,7 +5,7 @@ use Rattle.spec_modules.specs.Profile.{byte_limit}
 use Rattle.spec_modules.specs.Spells.{ModuleFits}
 use Rattle.spec_text.specs.Lexical.{Token, Lexes}
 use Rattle.spec_text.specs.Words.{Word, AreWords}
-use Rattle.spec_text.specs.Placed.{Field, without_places}
+use Rattle.spec_text.specs.FieldsOfPlaces.{Field, without_places}
 use Rattle.spec_text.specs.Grammar.{IsModule}
 use Rattle.spec_text.specs.Fields.{Resolves}
 

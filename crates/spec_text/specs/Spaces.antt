@@ -1,8 +1,8 @@
 -- Index spaces and their names (Core 6.1.3, Contexts; 6.6.1, Indices).
 use Rattle.std.specs.Prelude.{◌≡◌, ◌≢◌, ℕ, suc, List, [], ◌∷◌, Option, Some, None}
 use Rattle.spec_modules.specs.Syntax.{FuncType}
-use Rattle.spec_text.specs.Named
-use Rattle.spec_text.specs.Named.{Index, Numbered}
+use Rattle.spec_text.specs.FieldsOfBytes
+use Rattle.spec_text.specs.FieldsOfBytes.{Index, Numbered}
 use Rattle.spec_text.specs.Numbers.{IsU32}
 
 -- the names of an index space, one for each index: the (id?)* of a component of I (6.1.3)
@@ -19,7 +19,7 @@ pub data Stands (names : Names) : Index → ℕ → Type 0 where
   -- x:u32 ⇒ x
   by_number : {text : List ℕ} {n : ℕ} → IsU32 text n → Stands names (Numbered text) n
   -- v:id ⇒ x (if I.funcs[x] = v)
-  by_name : {id : List ℕ} {n : ℕ} → FirstAt id names n → Stands names (Named.Named id) n
+  by_name : {id : List ℕ} {n : ℕ} → FirstAt id names n → Stands names (FieldsOfBytes.Named id) n
 
 -- no name stands twice: "well-formed" of a context (6.1.3)
 pub data AreDistinct : Names → Type 0 where

@@ -3,8 +3,8 @@ use Rattle.std.specs.Prelude.{◌≡◌, ◌≢◌, ℕ, suc, List, [], ◌∷�
 use Rattle.std.specs.List.{flat_map}
 use Rattle.wtypes.specs.declared.ValType.{ValType}
 use Rattle.spec_modules.specs.Syntax.{FuncType}
-use Rattle.spec_text.specs.Named
-use Rattle.spec_text.specs.Named.{Index, Binding, TypeUse, Flat, Field, ImportField, FuncField, GlobalField, ElemField, DataField, FuncDesc}
+use Rattle.spec_text.specs.FieldsOfBytes
+use Rattle.spec_text.specs.FieldsOfBytes.{Index, Binding, TypeUse, Flat, Field, ImportField, FuncField, GlobalField, ElemField, DataField, FuncDesc}
 use Rattle.spec_text.specs.Spaces.{Names, Stands}
 
 abbrev pub types_of : List Binding → List ValType
@@ -40,10 +40,10 @@ abbrev pub inline_of_use : TypeUse → List FuncType
 inline_of_use w = elim w.index [ None ↦ written_type w ∷ [] | Some i ↦ [] ]
 
 abbrev pub inline_of_flat : Flat → List FuncType
-inline_of_flat (Named.CallIndirect w) = inline_of_use w
+inline_of_flat (FieldsOfBytes.CallIndirect w) = inline_of_use w
 inline_of_flat _ = []
 
-abbrev pub inline_of_desc : Named.Desc → List FuncType
+abbrev pub inline_of_desc : FieldsOfBytes.Desc → List FuncType
 inline_of_desc (FuncDesc w) = inline_of_use w
 inline_of_desc _ = []
 

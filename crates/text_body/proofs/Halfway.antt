@@ -2,7 +2,7 @@
 use Rattle.std.proofs.Common.{◌≡◌, ◌<◌, true, false, List, [], ◌∷◌, ◌++◌, length, Some, None, refl, sym, ap, ◌∙◌, subst, arith, append_assoc}
 use Rattle.std.proofs.lemmas.List.{append-nil}
 use Rattle.spec_text.specs.Words.{Word}
-use Rattle.spec_text.specs.Placed as N
+use Rattle.spec_text.specs.FieldsOfPlaces as N
 use Rattle.text_body.specs.Bodies.{IsBody, NoBody}
 use Rattle.text_body.specs.Turns.{Open, Operands, Inside, Move, Emits, Opens, Begins, Completes, Ends, Closes, Turns, top_of, move_at, State, step_of, is_end}
 use Rattle.text_body.proofs.Pieces.{none_some, some_none, some_same}

@@ -8,7 +8,7 @@ use Rattle.spec_text.specs.declared.KeyWord.TheVariants as k
 use Rattle.spec_text.specs.declared.Operator.{Operator}
 use Rattle.spec_text.specs.declared.Operator.TheVariants as o
 use Rattle.spec_text.specs.Words.{Word, LeftBracket, RightBracket, Key, Op, OffsetIs, AlignIs, Id, Number}
-use Rattle.spec_text.specs.Placed as N
+use Rattle.spec_text.specs.FieldsOfPlaces as N
 use Rattle.spec_text.specs.Grammar as G
 use Rattle.spec_text.specs.Grammar.{NotAhead, OptionalId, some_id, no_id, IsIndex, Indices, Bindings, Results, OptionalResult, TypeUses, Offset, Align, Plain, is_simple, is_indexed, are_unnamed}
 use Rattle.text_body.specs.declared.parts.Part.{Part}

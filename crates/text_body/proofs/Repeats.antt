@@ -6,7 +6,7 @@ use Rattle.spec_text.specs.Words.{Word}
 use Rattle.text_body.specs.declared.unread.ParseFault.{ParseFault}
 use Rattle.text_body.specs.declared.unread.ParseFault.TheVariants.{Stuck, NoMemory}
 use Rattle.text_body.specs.Outcome.{Unless}
-use Rattle.spec_text.specs.Placed as N
+use Rattle.spec_text.specs.FieldsOfPlaces as N
 use Rattle.text_body.specs.Reading.{indices_at, last_of, with_front, table_at, Read, ◌>>=◌, repeated, more_of}
 
 abbrev pub Next : Type 0 → Type 0

@@ -7,7 +7,7 @@ use Rattle.spec_text.specs.declared.KeyWord.{KeyWord}
 use Rattle.spec_text.specs.declared.KeyWord.TheVariants as k
 use Rattle.spec_text.specs.declared.Operator.{Operator}
 use Rattle.spec_text.specs.Words.{Word, LeftBracket, RightBracket, Key, Op}
-use Rattle.spec_text.specs.Placed as N
+use Rattle.spec_text.specs.FieldsOfPlaces as N
 use Rattle.spec_text.specs.Grammar as G
 use Rattle.spec_text.specs.Grammar.{OptionalId, OptionalResult, Plain, IsBlock, Instrs, OneInstr, Foldeds, Branches, NotAhead}
 use Rattle.text_body.specs.declared.parts.Part.TheVariants as part

@@ -2,13 +2,13 @@
 use Rattle.std.proofs.Common.{◌≡◌, ℕ, Bool, true, false, List, Option, Some, None, Result, Ok, Err, refl, sym, ap, ◌∙◌}
 use Rattle.std.specs.Prelude.{IfOk, IfErr}
 use Rattle.spec_text.specs.Words.{Word}
-use Rattle.spec_text.specs.Placed as N
+use Rattle.spec_text.specs.FieldsOfPlaces as N
 use Rattle.spec_text.specs.Grammar.{OptionalId, Bindings, Indices, Results, TypeUses}
 use Rattle.text_body.specs.declared.unread.ParseFault.{ParseFault}
 use Rattle.text_body.specs.declared.parts.Part.{Part}
 use Rattle.text_body.specs.Outcome.{Gives, Unless}
 use Rattle.text_body.specs.Reading.{Read, id_at, index_at, indices_at, bindings_at, results_at, use_at, key_of, ahead, moved}
-use Rattle.text_body.specs.Shared.{OneIndex, NoneOf, Entered, IsOne, SharedAreOne}
+use Rattle.text_body.specs.SharedParts.{OneIndex, NoneOf, Entered, IsOne, SharedAreOne}
 use Rattle.text_body.proofs.Repeats.{hand_on}
 use Rattle.text_body.proofs.Pieces.{none_some, some_same, id_is_read, index_read, indices_read, bindings_read, results_read, use_is_read, ahead_is, ahead_none}
 

@@ -1,7 +1,7 @@
 -- Bodies, and when a refusal is right.
 use Rattle.std.specs.Prelude.{◌≡◌, List, [], ◌∷◌}
 use Rattle.spec_text.specs.Words.{Word, RightBracket}
-use Rattle.spec_text.specs.Placed as N
+use Rattle.spec_text.specs.FieldsOfPlaces as N
 use Rattle.spec_text.specs.Grammar.{Instrs}
 
 -- instructions up to a ), and what follows it

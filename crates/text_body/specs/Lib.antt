@@ -4,4 +4,4 @@ pub mod Reading
 pub mod Outcome
 pub mod Turns
 pub mod Bodies
-pub mod Shared
+pub mod SharedParts

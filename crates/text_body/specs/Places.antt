@@ -2,7 +2,7 @@
 use Rattle.std.specs.Prelude.{List, map, Option, option_map}
 use Rattle.lexer.specs.declared.word.Piece.{Piece}
 use Rattle.lexer.specs.WordsViews.{placed}
-use Rattle.spec_text.specs.Placed as N
+use Rattle.spec_text.specs.FieldsOfPlaces as N
 use Rattle.text_body.specs.declared.flat.Index.{Index}
 use Rattle.text_body.specs.declared.flat.Index.TheVariants as index
 use Rattle.text_body.specs.declared.flat.Binding.{Binding}

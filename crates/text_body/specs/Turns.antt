@@ -5,7 +5,7 @@ use Rattle.spec_text.specs.declared.KeyWord.{KeyWord}
 use Rattle.spec_text.specs.declared.KeyWord.TheVariants as k
 use Rattle.spec_text.specs.declared.Operator.{Operator}
 use Rattle.spec_text.specs.Words.{Word, LeftBracket, RightBracket, Key, Op}
-use Rattle.spec_text.specs.Placed as N
+use Rattle.spec_text.specs.FieldsOfPlaces as N
 use Rattle.text_body.specs.declared.parts.Part.TheVariants as part
 use Rattle.text_body.specs.declared.turns.Form as code_form
 use Rattle.text_body.specs.declared.turns.Form.TheVariants as form

@@ -1,7 +1,7 @@
 -- What contracts see of flat instructions.
 use Rattle.std.specs.Prelude.{ℕ, List, map, Option, option_map}
 use Rattle.lexer.specs.declared.word.Piece.{Piece}
-use Rattle.spec_text.specs.Named as N
+use Rattle.spec_text.specs.FieldsOfBytes as N
 use Rattle.text_body.specs.declared.flat.Index.{Index}
 use Rattle.text_body.specs.declared.flat.Index.TheVariants as index
 use Rattle.text_body.specs.declared.flat.Binding.{Binding}

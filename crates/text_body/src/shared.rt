@@ -7,7 +7,7 @@ ghost use Rattle.lexer.specs.WordsViews.{views};
 ghost use Rattle.text_body.specs.Places.{text_of, index_of, binding_of, use_of};
 ghost use Rattle.text_body.specs.Outcome.{Unless, Gives};
 ghost use Rattle.text_body.specs.Reading.{key_of, moved, ahead, id_at, index_at, indices_at, bindings_at, results_at, use_at, close_at};
-ghost use Rattle.text_body.specs.Shared.{OneIndex, NoneOf, Entered, NotClosed, SharedAreOne};
+ghost use Rattle.text_body.specs.SharedParts.{OneIndex, NoneOf, Entered, NotClosed, SharedAreOne};
 
 use crate::flat::{Binding, Index, TypeUse};
 use crate::parts;

@@ -10,7 +10,7 @@ use Rattle.spec_modules.specs.Syntax.{FuncType}
 use Rattle.spec_text.specs.TypeUses.{FirstType, Adds, all_added, is_there, is_new}
 use Rattle.text_resolve.specs.Types.{first_type}
 use Rattle.text_resolve.proofs.Plains.{type_is_found, found_is_type}
-use Rattle.text_fields.specs.Added.{added_one, added, option_list, TypesAreOne}
+use Rattle.text_fields.specs.AddedTypes.{added_one, added, option_list, TypesAreOne}
 
 one_more : (ts us : List FuncType) (t : FuncType) (o : Option ℕ) → first_type t ts ≡ o → Adds (added_one ts t) us (added (added_one ts t) us) → Adds ts (t ∷ us) (added (added_one ts t) us)
 one_more ts us t (Some i) e a =

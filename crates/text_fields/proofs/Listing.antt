@@ -8,7 +8,7 @@ use Rattle.spec_text.specs.Spaces.{Names, Spaces}
 use Rattle.spec_text.specs.TypeUses.{inline_of_field}
 use Rattle.spec_text.specs.Fields.{declared_type}
 use Rattle.text_fields.proofs.Adding.{types_are_one}
-use Rattle.text_fields.specs.Listed.{SpacesAreOne}
+use Rattle.text_fields.specs.NameLists.{SpacesAreOne}
 
 -- as far as a loop has come
 pub names_more : {X Y Z : Type 0} (g : Y → List Z) (f : X → Y) (xs : List X) (i : ℕ) (x : X) (ts us whole : List Z) → i < length xs → x ≡ get_or xs i x

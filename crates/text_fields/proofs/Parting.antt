@@ -10,7 +10,7 @@ use Rattle.spec_modules.specs.Syntax as S
 use Rattle.std.specs.List.{list_all}
 use Rattle.spec_modules.specs.Limits.{is_u32, export_fits, both, first, second}
 use Rattle.spec_modules.specs.Spells.{ExpressionFits}
-use Rattle.spec_text.specs.Named as N
+use Rattle.spec_text.specs.FieldsOfBytes as N
 use Rattle.spec_text.specs.Spaces.{Names, Spaces, FirstAt, AreDistinct, no_names, unnamed, a_name}
 use Rattle.spec_text.specs.Instructions.{Body}
 use Rattle.text_resolve.specs.declared.refusal.ResolveFault.{ResolveFault}

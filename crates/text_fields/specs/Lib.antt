@@ -1,4 +1,4 @@
-pub mod Added
-pub mod Listed
+pub mod AddedTypes
+pub mod NameLists
 pub mod PartView
 pub mod Parts

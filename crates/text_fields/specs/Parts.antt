@@ -4,7 +4,7 @@ use Rattle.std.specs.List.{list_all}
 use Rattle.wtypes.specs.declared.ValType.{ValType}
 use Rattle.spec_modules.specs.Syntax as S
 use Rattle.spec_modules.specs.Limits.{is_u32, expression_fits, limits_fit, import_fits, global_fits, export_fits, element_fits, data_fits}
-use Rattle.spec_text.specs.Named as N
+use Rattle.spec_text.specs.FieldsOfBytes as N
 use Rattle.spec_text.specs.Spaces.{Names, Spaces}
 use Rattle.spec_text.specs.TypeUses.{names_of, types_of}
 use Rattle.text_resolve.specs.Lookup.{find, u32_at, stands_at, all_stand_at}

@@ -7,7 +7,7 @@ ghost use Rattle.module_tree.specs.ModuleView.{func_type_view};
 ghost use Rattle.text_body.specs.Views.{use_of, flat_of, flats_of};
 ghost use Rattle.text_tree.specs.Views.{desc_of, field_of, fields_of};
 ghost use Rattle.text_resolve.specs.declared.refusal.ResolveFault.TheVariants.{NoMemory};
-ghost use Rattle.text_fields.specs.Added.{added_one, added, option_list, TypesAreOne};
+ghost use Rattle.text_fields.specs.AddedTypes.{added_one, added, option_list, TypesAreOne};
 
 use std::alloc::Allocator;
 use text_body::{Flat, TypeUse};

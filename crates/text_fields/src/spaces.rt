@@ -9,7 +9,7 @@ ghost use Rattle.text_tree.specs.Views.{field_of, fields_of};
 ghost use Rattle.text_resolve.specs.Outcome.{Unless};
 ghost use Rattle.text_resolve.specs.declared.refusal.ResolveFault.TheVariants.{NoMemory};
 ghost use Rattle.text_resolve.specs.Views.{spaces_of};
-ghost use Rattle.text_fields.specs.Listed.{listed, names_in, NoSpaces, SpacesAreOne};
+ghost use Rattle.text_fields.specs.NameLists.{listed, names_in, NoSpaces, SpacesAreOne};
 
 use crate::types_of_text;
 use lexer::Piece;

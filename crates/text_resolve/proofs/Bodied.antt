@@ -10,7 +10,7 @@ use Rattle.spec_modules.specs.Shape.{instr_depth, instrs_depth}
 use Rattle.spec_modules.specs.Profile.{nesting_limit}
 use Rattle.spec_modules.specs.Limits.{instrs_fit, expression_fits, both}
 use Rattle.spec_modules.specs.Spells.{InstrLabelsFit, LabelsFit, ExpressionFits}
-use Rattle.spec_text.specs.Named as N
+use Rattle.spec_text.specs.FieldsOfBytes as N
 use Rattle.spec_text.specs.Spaces.{Names, Spaces}
 use Rattle.spec_text.specs.Instructions.{Becomes, simply, with_index, br_table, call_indirect, load, store, const, Closes, not_named, named_again, Body, nothing, plain, block, loop, if_then, if_else}
 use Rattle.text_resolve.proofs.Lookups.{mapped, picked}

@@ -13,7 +13,7 @@ use Rattle.spec_text.specs.Spaces.{Names, FirstAt, here, later, AreDistinct, no_
 use Rattle.spec_text.specs.Numbers.{IsU32}
 use Rattle.lexer.specs.Values.{magnitude_at}
 use Rattle.lexer.proofs.Amounts.{capped_read, magnitude_is_read, found_u32}
-use Rattle.spec_text.specs.Named as N
+use Rattle.spec_text.specs.FieldsOfBytes as N
 use Rattle.text_resolve.specs.declared.refusal.ResolveFault.{ResolveFault}
 use Rattle.text_resolve.specs.declared.refusal.ResolveFault.TheVariants.{UnknownName, RepeatedName, NumberRange, TooLarge, Broken, NoMemory}
 use Rattle.text_resolve.specs.Outcome.{Fails}

@@ -19,7 +19,7 @@ use Rattle.spec_modules.specs.Spells.{InstrLabelsFit}
 use Rattle.spec_modules.specs.Operators.{value_of}
 use Rattle.spec_modules.specs.Storage.{load_width, store_width}
 use Rattle.spec_text.specs.Numbers.{IsU32, IsConstant, constant}
-use Rattle.spec_text.specs.Named as N
+use Rattle.spec_text.specs.FieldsOfBytes as N
 use Rattle.spec_text.specs.Spaces.{Names, Spaces}
 use Rattle.spec_text.specs.TypeUses.{FirstType, this_type, later_type, Uses, inline, alone, again, written_type, names_of}
 use Rattle.spec_text.specs.Instructions.{indexed, names_in, OffsetOf, no_offset, an_offset, AlignOf, no_align, an_align, Becomes, simply, with_index, br_table, call_indirect, load, store, const}

@@ -2,7 +2,7 @@
 use Rattle.std.proofs.Common.{◌≡◌, ℕ, List, [], ◌∷◌, Option, Some, None, refl, ap, ◌∙◌, subst}
 use Rattle.std.specs.Prelude.{option_map, option_and_then}
 use Rattle.std.proofs.lemmas.Option.{none-some, same_Some}
-use Rattle.spec_text.specs.Named as N
+use Rattle.spec_text.specs.FieldsOfBytes as N
 use Rattle.spec_text.specs.Spaces.{Names, Stands, by_number, by_name}
 use Rattle.spec_text.specs.Instructions.{AllStand, none_stands, one_stands}
 use Rattle.text_resolve.specs.Lookup.{stands_at, all_stand_at}

@@ -7,7 +7,7 @@ use Rattle.std.specs.List.{range_with_len}
 use Rattle.std.proofs.Math.ListN.{drop_of_length-le}
 use Rattle.std.proofs.lemmas.Bool.{eq-eqb}
 use Rattle.spec_modules.specs.Limits.{instr_fits, instrs_fit, counts_from, both, first, second}
-use Rattle.spec_text.specs.Named as N
+use Rattle.spec_text.specs.FieldsOfBytes as N
 use Rattle.text_resolve.specs.declared.refusal.ResolveFault.{ResolveFault}
 use Rattle.text_resolve.specs.declared.refusal.ResolveFault.TheVariants.{UnknownName, RepeatedName, NumberRange, TooLarge, Broken, NoMemory}
 use Rattle.text_resolve.specs.Outcome.{Unless, Fails}

@@ -3,7 +3,7 @@ use Rattle.std.specs.Prelude.{◌≡◌, ℕ, zero, suc, Bool, true, false, List
 use Rattle.std.specs.Str.{bytes_eq}
 use Rattle.wtypes.specs.declared.ValType.{ValType}
 use Rattle.spec_modules.specs.Syntax as S
-use Rattle.spec_text.specs.Named as N
+use Rattle.spec_text.specs.FieldsOfBytes as N
 use Rattle.spec_modules.specs.Spells.{ExpressionFits}
 use Rattle.spec_text.specs.Spaces.{Names, Spaces}
 use Rattle.spec_text.specs.Instructions.{Body}

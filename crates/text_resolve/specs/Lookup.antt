@@ -2,7 +2,7 @@
 use Rattle.std.specs.Prelude.{ℕ, ◌+◌, ◌-◌, ◌^◌, Bool, false, List, [], ◌∷◌, Option, Some, None, option_map, option_and_then, cond}
 use Rattle.std.specs.Str.{bytes_eq}
 use Rattle.spec_text.specs.Spaces.{Names}
-use Rattle.spec_text.specs.Named as N
+use Rattle.spec_text.specs.FieldsOfBytes as N
 use Rattle.lexer.specs.Values.{magnitude_at, capped}
 
 abbrev pub is_name : List ℕ → Option (List ℕ) → Bool

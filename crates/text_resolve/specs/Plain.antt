@@ -10,7 +10,7 @@ use Rattle.spec_modules.specs.Profile.{label_limit}
 use Rattle.spec_modules.specs.Operators.{word, value_of}
 use Rattle.spec_modules.specs.Storage.{load_width, store_width}
 use Rattle.spec_text.specs.declared.Operator.{Operator}
-use Rattle.spec_text.specs.Named as N
+use Rattle.spec_text.specs.FieldsOfBytes as N
 use Rattle.spec_text.specs.Spaces.{Names, Spaces}
 use Rattle.spec_text.specs.Instructions.{simple, indexed, names_in}
 use Rattle.lexer.specs.Values.{bits_at}

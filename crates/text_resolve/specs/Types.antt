@@ -3,7 +3,7 @@ use Rattle.std.specs.Prelude.{ℕ, Bool, true, false, ◌&&◌, ◌||◌, List, 
 use Rattle.wtypes.specs.declared.ValType.{ValType}
 use Rattle.spec_modules.specs.Syntax.{FuncType}
 use Rattle.spec_modules.specs.Operators.{same_type}
-use Rattle.spec_text.specs.Named as N
+use Rattle.spec_text.specs.FieldsOfBytes as N
 use Rattle.spec_text.specs.Spaces.{Names}
 use Rattle.spec_text.specs.TypeUses.{written_type}
 use Rattle.text_resolve.specs.Lookup.{first_at, stands_at}

@@ -4,7 +4,7 @@ use Rattle.spec_text.specs.Spaces as spaces
 use Rattle.module_tree.specs.ModuleView.{func_type_view}
 use Rattle.text_body.specs.Views.{text_of, flats_of}
 use Rattle.text_body.specs.declared.flat.Flat.{Flat}
-use Rattle.spec_text.specs.Named as N
+use Rattle.spec_text.specs.FieldsOfBytes as N
 use Rattle.text_resolve.specs.declared.spaces.Spaces.{Spaces}
 
 abbrev pub spaces_of : {A : Type 0} → Spaces A → spaces.Spaces

@@ -3,13 +3,13 @@ use Rattle.std.proofs.Common.{◌≡◌, ℕ, List, ◌∷◌, Option, Some, Non
 use Rattle.spec_modules.specs.Syntax as S
 use Rattle.spec_text.specs.declared.KeyWord.TheVariants as k
 use Rattle.spec_text.specs.Words.{Word, LeftBracket, Key}
-use Rattle.spec_text.specs.Placed as N
+use Rattle.spec_text.specs.FieldsOfPlaces as N
 use Rattle.spec_text.specs.Grammar as G
 use Rattle.spec_text.specs.Grammar.{OptionalId, IsIndex, Indices, Bindings, TypeUses, GlobalTypes, Exports, Strings, FieldWords}
 use Rattle.text_body.specs.declared.parts.Part.TheVariants as part
 use Rattle.text_body.specs.Bodies.{IsBody, NoBody}
 use Rattle.text_body.specs.Reading.{Read, index_at, indices_at, close_at, bindings_at, use_at}
-use Rattle.text_body.specs.Shared.{NoneOf}
+use Rattle.text_body.specs.SharedParts.{NoneOf}
 use Rattle.text_body.proofs.OneBody.{bodies_are_one}
 use Rattle.text_body.proofs.Pieces.{some_none, some_same, close_is, index_read, index_found, indices_read, indices_found, bindings_read, bindings_found, use_is_read, use_found}
 use Rattle.text_tree.specs.declared.parts.Inner.TheVariants as inner

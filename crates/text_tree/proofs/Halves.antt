@@ -4,11 +4,11 @@ use Rattle.std.proofs.lemmas.List.{append-nil}
 use Rattle.spec_text.specs.declared.KeyWord.{KeyWord}
 use Rattle.spec_text.specs.declared.KeyWord.TheVariants as k
 use Rattle.spec_text.specs.Words.{Word, LeftBracket, RightBracket, Key}
-use Rattle.spec_text.specs.Placed as N
+use Rattle.spec_text.specs.FieldsOfPlaces as N
 use Rattle.spec_text.specs.Grammar as G
 use Rattle.spec_text.specs.Grammar.{OptionalId, FieldWords, Fields, IsModule}
-use Rattle.lexer.specs.WordsReading.{WordsAreOne}
-use Rattle.text_body.specs.Shared.{NoneOf, IsOne}
+use Rattle.lexer.specs.ReadingOfWords.{WordsAreOne}
+use Rattle.text_body.specs.SharedParts.{NoneOf, IsOne}
 use Rattle.text_body.proofs.Pieces.{none_some, some_same, id_is_read}
 use Rattle.text_tree.specs.declared.parts.Inner.TheVariants as inner
 use Rattle.text_tree.specs.Order.{in_order}

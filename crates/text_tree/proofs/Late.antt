@@ -3,7 +3,7 @@ use Rattle.std.proofs.Common.{◌≡◌, Bool, true, false, cond, List, [], ◌�
 use Rattle.std.specs.Prelude.{◌&&◌}
 use Rattle.spec_text.specs.declared.KeyWord.{KeyWord}
 use Rattle.spec_text.specs.Words.{Word}
-use Rattle.spec_text.specs.Placed as N
+use Rattle.spec_text.specs.FieldsOfPlaces as N
 use Rattle.spec_text.specs.Grammar as G
 use Rattle.text_tree.specs.Order.{is_import, is_start, none, imports_first, one_start}
 use Rattle.text_tree.specs.Reading.{forbids_of, defined_behind, started_behind}

@@ -9,7 +9,7 @@ use Rattle.spec_modules.specs.Syntax as S
 use Rattle.spec_text.specs.declared.KeyWord.{KeyWord}
 use Rattle.spec_text.specs.declared.KeyWord.TheVariants as k
 use Rattle.spec_text.specs.Words.{Word, LeftBracket, RightBracket, Key, Number, Str}
-use Rattle.spec_text.specs.Placed as N
+use Rattle.spec_text.specs.FieldsOfPlaces as N
 use Rattle.spec_text.specs.Grammar as G
 use Rattle.spec_text.specs.Grammar.{OptionalId, IsIndex, Indices, Bindings, Results, TypeUses, Limits, GlobalTypes, IsKind, Descs, Exports, Strings, FieldWords}
 use Rattle.text_body.specs.Reading.{Read, ◌>>=◌, id_at, close_at}

@@ -1,6 +1,6 @@
 -- What contracts see of fields, with each name and each integer at its place.
 use Rattle.std.specs.Prelude.{ℕ, List, map, Option, string_bytes}
-use Rattle.spec_text.specs.Placed as N
+use Rattle.spec_text.specs.FieldsOfPlaces as N
 use Rattle.module_tree.specs.ModuleView.{global_type_view}
 use Rattle.lexer.specs.WordsViews.{placed}
 use Rattle.text_body.specs.Places.{text_of, index_of, binding_of, use_of, flats_of}

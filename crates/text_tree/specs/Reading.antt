@@ -6,7 +6,7 @@ use Rattle.spec_modules.specs.Syntax as S
 use Rattle.spec_text.specs.declared.KeyWord.{KeyWord}
 use Rattle.spec_text.specs.declared.KeyWord.TheVariants as k
 use Rattle.spec_text.specs.Words.{Word, LeftBracket, RightBracket, Key, Number, Str}
-use Rattle.spec_text.specs.Placed as N
+use Rattle.spec_text.specs.FieldsOfPlaces as N
 use Rattle.text_body.specs.declared.parts.Part.TheVariants as part
 use Rattle.text_body.specs.Reading.{Read, ◌>>=◌, id_at, index_at, indices_at, close_at, next_at, repeated, bindings_at, results_at, use_at}
 use Rattle.text_tree.specs.declared.parts.Inner.{Inner}

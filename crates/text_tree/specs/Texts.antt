@@ -3,7 +3,7 @@ use Rattle.std.specs.Prelude.{◌≡◌, true, List, ◌∷◌}
 use Rattle.spec_text.specs.Lexical.{Token}
 use Rattle.spec_text.specs.declared.KeyWord.{KeyWord}
 use Rattle.spec_text.specs.Words.{Word, Key, AreWords}
-use Rattle.spec_text.specs.Placed as N
+use Rattle.spec_text.specs.FieldsOfPlaces as N
 use Rattle.spec_text.specs.Grammar.{FieldWords, Fields, IsModule}
 use Rattle.text_tree.specs.Order.{in_order}
 

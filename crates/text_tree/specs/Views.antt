@@ -1,6 +1,6 @@
 -- What contracts see of fields.
 use Rattle.std.specs.Prelude.{List, map, string_bytes}
-use Rattle.spec_text.specs.Named as N
+use Rattle.spec_text.specs.FieldsOfBytes as N
 use Rattle.module_tree.specs.ModuleView.{global_type_view}
 use Rattle.text_body.specs.Views.{text_of, index_of, binding_of, use_of, flats_of}
 use Rattle.text_tree.specs.declared.field.Bounds.{Bounds}

@@ -2,7 +2,7 @@
 ghost use Rattle.std.specs.Prelude.{◌≡◌, ◌≤◌, ◌<◌, length, map, IfOk, IfErr};
 ghost use Rattle.lexer.specs.WordsViews.{views};
 ghost use Rattle.text_body.specs.Outcome.{Unless};
-ghost use Rattle.text_body.specs.Shared.{NoneOf};
+ghost use Rattle.text_body.specs.SharedParts.{NoneOf};
 ghost use Rattle.spec_text.specs.declared.KeyWord.TheVariants.{Func, Global, Elem, Data};
 ghost use Rattle.text_tree.specs.Places.{field_of, fields_of};
 ghost use Rattle.text_tree.specs.Reading.{forbids_of, defined_behind, started_behind};

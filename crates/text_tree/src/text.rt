@@ -2,7 +2,7 @@
 ghost use Rattle.std.specs.Prelude.{◌≡◌, length, IfOk, IfErr};
 ghost use Rattle.spec_text.specs.Lexical.{Lexes};
 ghost use Rattle.lexer.specs.Views as listed;
-ghost use Rattle.lexer.specs.WordsRefused.{Unless};
+ghost use Rattle.lexer.specs.WordRefusals.{Unless};
 ghost use Rattle.lexer.specs.WordsViews.{views};
 ghost use Rattle.lexer.specs.declared.refusal.TextRefusal.TheVariants.{NoMemory};
 ghost use Rattle.text_tree.specs.Places.{fields_of};

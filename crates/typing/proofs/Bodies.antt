@@ -8,11 +8,11 @@ use Rattle.spec_typing.proofs.Sound.{both}
 use Rattle.spec_modules.specs.Syntax as syntax
 use Rattle.module_tree.specs.declared.module.Func.{Func}
 use Rattle.module_tree.specs.ModuleView.{func_view}
-use Rattle.body_typing.specs.Checked.{Tells}
+use Rattle.body_typing.specs.CheckResults.{Tells}
 use Rattle.body_typing.specs.declared.scope.TypeRefusal.{TypeRefusal}
 use Rattle.body_typing.specs.declared.scope.TypeRefusal.TheVariants.{At, NoMemory}
 use Rattle.typing.specs.Tests.{func_passes, body_passes, module_passes}
-use Rattle.typing.specs.Judged.{JudgedBy, Denies}
+use Rattle.typing.specs.CheckResults.{JudgedBy, Denies}
 use Rattle.typing.proofs.Decides.{body_of, of_body, of_typed}
 
 not_passed : (b : Bool) → (b ≡ true → ⊥) → b ≡ false

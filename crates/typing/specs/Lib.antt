@@ -1,4 +1,4 @@
-pub mod Judged
+pub mod CheckResults
 pub mod Names
 pub mod Parts
 pub mod Takes

@@ -4,10 +4,10 @@ ghost use Rattle.std.specs.List.{list_all};
 ghost use Rattle.spec_typing.specs.Modules.{imported_globals, ModuleTyped};
 ghost use Rattle.module_tree.specs.ModuleView.{func_view, global_type_view};
 ghost use Rattle.module_tree.specs.Modules.{module_view};
-ghost use Rattle.body_typing.specs.Checked.{spaces_view};
+ghost use Rattle.body_typing.specs.CheckResults.{spaces_view};
 ghost use Rattle.body_typing.specs.Spaces.{AreSpaces};
 ghost use Rattle.typing.specs.Tests.{func_passes, body_passes, heads_pass, uses_pass, module_passes};
-ghost use Rattle.typing.specs.Judged.{JudgedBy, Denies};
+ghost use Rattle.typing.specs.CheckResults.{JudgedBy, Denies};
 ghost use Rattle.typing.specs.Parts.{tree_of};
 
 use crate::rules::{Fault, check_imports, func_fault, memory_fault, table_fault, type_fault};

@@ -7,7 +7,7 @@ ghost use Rattle.wtypes.specs.declared.PlainInstr.TheVariants as plain;
 ghost use Rattle.spec_typing.specs.Typing.{of};
 ghost use Rattle.spec_typing.specs.Principal.{Stack, arrow, leave, plain_step, step};
 ghost use Rattle.module_tree.specs.View.{instr_view};
-ghost use Rattle.body_typing.specs.Checked.{context_at};
+ghost use Rattle.body_typing.specs.CheckResults.{context_at};
 ghost use Rattle.typing.specs.Takes.{finds, is_there};
 
 use body_typing::lookup::{is_load_aligned, is_store_aligned, label_at, type_at, type_index};

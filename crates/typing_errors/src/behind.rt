@@ -3,7 +3,7 @@
 ghost use Rattle.std.specs.Prelude.{◌≡◌, IfOk};
 ghost use Rattle.spec_typing.specs.Principal.{empty, run};
 ghost use Rattle.module_tree.specs.View.{instrs_view};
-ghost use Rattle.body_typing.specs.Checked.{context_at};
+ghost use Rattle.body_typing.specs.CheckResults.{context_at};
 
 use body_typing::check::left_by;
 use body_typing::operands::Operands;

@@ -24,7 +24,7 @@ use Rattle.validator.specs.declared.job.Job.{Job}
 use Rattle.validator.specs.declared.trial.Trial.{Trial}
 use Rattle.validator.specs.declared.verdict.Validated.{Validated}
 use Rattle.validator.specs.Jobs.{IsJob}
-use Rattle.validator.specs.Judged.{IsToldBy, verdict_view}
+use Rattle.validator.specs.VerdictsFound.{IsToldBy, verdict_view}
 use Rattle.validator.specs.Trials.{Holds, IsFirst, IsFit, IsJudged, IsTrial, MayRun}
 
 pub as_many_numbers : (b : Block) (order : List ℕ) → order ≡ order_of b → length b.positions ≡ length order

@@ -1,5 +1,5 @@
 pub mod Fuel
 pub mod PositionRuns
 pub mod Jobs
-pub mod Judged
+pub mod VerdictsFound
 pub mod Trials

@@ -1,7 +1,7 @@
 -- Runs that workers hand back.
 use Rattle.std.specs.Prelude.{◌≡◌, ℕ, List, Option, Result, Some, IfSome, IfOk, slice_get, All}
 use Rattle.interp.specs.Callee.{setting_view}
-use Rattle.interp.specs.Played.{Played}
+use Rattle.interp.specs.FinishedCalls.{Played}
 use Rattle.serial.specs.Runs.{IsRunOf}
 use Rattle.validator.specs.declared.job.Job.{Job}
 use Rattle.validator.specs.declared.job.PositionRun.{PositionRun}

@@ -3,10 +3,10 @@
 ghost use Rattle.std.specs.Prelude.{◌≡◌, ◌<◌, ◌^◌, ◌↔◌, ℕ, IfNone, IfSome, IsTrue, length};
 ghost use Rattle.lock_profile.specs.Groups.{pairs};
 ghost use Rattle.serial.specs.Positions.{results_of};
-ghost use Rattle.serial.specs.Ordered.{fuel_of_receipts};
+ghost use Rattle.serial.specs.OrderOutcomes.{fuel_of_receipts};
 ghost use Rattle.spec_block.specs.Worlds.{held_in};
 ghost use Rattle.spec_block.specs.Verdicts.{Agrees, IsLeast, IsOther};
-ghost use Rattle.validator.specs.Judged.{IsCompared};
+ghost use Rattle.validator.specs.VerdictsFound.{IsCompared};
 
 use block::{Block, Position};
 use lock_profile::{Held, Touched};

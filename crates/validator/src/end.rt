@@ -10,7 +10,7 @@ ghost use Rattle.block_judge.specs.Judging.{IsFirstFrom};
 ghost use Rattle.world.specs.Views.{world_view};
 ghost use Rattle.in_order.specs.Progress.{IsProgressOf};
 ghost use Rattle.validator.specs.Jobs.{IsJob};
-ghost use Rattle.validator.specs.Judged.{Concludes, IsCompared, verdict_view};
+ghost use Rattle.validator.specs.VerdictsFound.{Concludes, IsCompared, verdict_view};
 ghost use Rattle.validator.specs.Trials.{IsFirst, IsFit, MayRun};
 
 use crate::compare::{Compared, compare};

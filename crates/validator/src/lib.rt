@@ -19,7 +19,7 @@ ghost use Rattle.block_judge.specs.Judging.{IfRejected, IsReasonOf, told};
 ghost use Rattle.in_order.specs.Progress.{IsProgressOf};
 ghost use Rattle.world.specs.Views.{world_view};
 ghost use Rattle.validator.specs.Jobs.{IsJob};
-ghost use Rattle.validator.specs.Judged.{verdict_view};
+ghost use Rattle.validator.specs.VerdictsFound.{verdict_view};
 ghost use Rattle.validator.specs.Trials.{IsFirst, IsJudged, IsTrial, MayRun};
 
 use crate::end::{end, end_alone};

@@ -1,7 +1,7 @@
 //! Verdicts.
 
 ghost use Rattle.std.specs.Prelude.{IfOk};
-ghost use Rattle.validator.specs.Judged.{IsToldBy, verdict_view};
+ghost use Rattle.validator.specs.VerdictsFound.{IsToldBy, verdict_view};
 
 use block_judge::{JudgeRefusal, Reason};
 use std::alloc::{Allocator, Global};

@@ -4,7 +4,7 @@
 ghost use Rattle.std.specs.Prelude.{◌≡◌, ◌≤◌, IsTrue, IfOk, IfErr, OnOk, length, string_bytes};
 ghost use Rattle.serde_json.specs.View.{view};
 ghost use Rattle.spec_block.specs.Verdicts.{IsVerdictOf};
-ghost use Rattle.validator.specs.Judged.{verdict_view};
+ghost use Rattle.validator.specs.VerdictsFound.{verdict_view};
 ghost use Rattle.world.specs.Views.{world_view};
 ghost use Rattle.wblock_line.specs.Answers.{CountsFault, IsOfFile, upshot_of};
 ghost use Rattle.wblock_line.specs.Transitions.{leaving, next_write, WritesBeside};

@@ -4,7 +4,7 @@ use Rattle.wblock_io.specs.Holding.{Holding, Failing, IsFailed}
 use Rattle.wblock_line.specs.declared.answer.Answer.{Answer}
 use Rattle.wblock_line.specs.declared.perform.Status.{Status}
 use Rattle.wblock_line.specs.Answers.{EndsLine, upshot_of, status_of, writes_of, text_of, Wrote, IsFailing, IsSaid}
-use Rattle.wblock_commands.specs.Stored.{ShowsStored}
+use Rattle.wblock_commands.specs.AnswersWithoutWords.{ShowsStored}
 use Rattle.wblock_usage.specs.Texts.{TellsText}
 use Rattle.wblock_modules.specs.Assembles.{Assembles}
 use Rattle.wblock_modules.specs.Checks.{Checks}
@@ -15,7 +15,7 @@ use Rattle.wblock_blocks.specs.Notes.{Notes}
 use Rattle.wblock_blocks.specs.Validates.{Validates, IsNextFile}
 use Rattle.wblock_call.specs.Calling.{Calls}
 use Rattle.wblock_debug.specs.Debugs.{Debugs, IsNotListed, IsNextRead}
-use Rattle.wblock_show.specs.Named.{ShowsNamed, IsNextNamed}
+use Rattle.wblock_show.specs.FileAnswers.{ShowsNamed, IsNextNamed}
 use Rattle.wblock_commands.specs.declared.command.Command.{Command}
 use Rattle.wblock_commands.specs.declared.command.Command.TheVariants.{Stored, Help, Version, Asm, Text, Check, Deploy, Mine, Validate, Call, Debug, Show}
 use Rattle.wblock_commands.specs.Deploying.{MayReplace, IsTaken, DeploysFree, IsNextToDeploy}

@@ -2,6 +2,6 @@ pub mod Answers
 pub mod Deploying
 pub mod Does
 pub mod Runs
-pub mod Stored
+pub mod AnswersWithoutWords
 pub mod Options
 pub mod Words

@@ -3,7 +3,7 @@
 ghost use Rattle.std.specs.Prelude.{◌≡◌, IfOk, IfErr};
 ghost use Rattle.interp.specs.Callee.{contract_view};
 ghost use Rattle.wblock_commands.specs.Answers.{CallsAnswer, Refuses, IsAnswer};
-ghost use Rattle.wblock_commands.specs.Stored.{ShowsStored};
+ghost use Rattle.wblock_commands.specs.AnswersWithoutWords.{ShowsStored};
 
 use crate::runs::run_calls;
 use crate::stored::{CALLS, MODULE};

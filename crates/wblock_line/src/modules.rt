@@ -8,7 +8,7 @@ ghost use Rattle.expr_reader.specs.Outcome.{Unless};
 ghost use Rattle.loader.specs.Refusals.{NoModule};
 ghost use Rattle.module_tree.specs.Modules.{module_view};
 ghost use Rattle.typing.specs.Parts as typed;
-ghost use Rattle.typing.specs.Judged.{Denies};
+ghost use Rattle.typing.specs.CheckResults.{Denies};
 ghost use Rattle.link.specs.Parts.{tree_of, hosts_of};
 ghost use Rattle.wblock_line.specs.Modules.{IsValidOf, IsContractOf, IsFirst, IsUnspelled, StopsAt};
 

@@ -8,7 +8,7 @@ use Rattle.lexer.specs.declared.LexRefusal.TheVariants as lexical
 use Rattle.module_tree.specs.LimitNumbers.{number_of}
 use Rattle.text_resolve.specs.declared.refusal.AsmRefusal.{AsmRefusal}
 use Rattle.text_resolve.specs.declared.refusal.AsmRefusal.TheVariants.{Lex, Unexpected, UnknownName, RepeatedName, NumberRange, TooLarge, NoMemory}
-use Rattle.assembler.specs.Named.{NamesNothing, IsWhy}
+use Rattle.assembler.specs.NamedModules.{NamesNothing, IsWhy}
 use Rattle.wblock_io.specs.Holding.{Holding}
 use Rattle.wblock_line.specs.declared.answer.Answer.{Answer}
 use Rattle.wblock_line.specs.declared.answer.Answer.TheVariants.{Done, Refused}

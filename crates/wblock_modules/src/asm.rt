@@ -1,8 +1,8 @@
 //! The command `asm TEXT MODULE [--json]`: the module that a text names, in its shortest spelling. Its tree stands in an arena.
 
 ghost use Rattle.std.specs.Prelude.{◌≡◌, IsTrue, IfOk, IfErr, OnOk, string_bytes};
-ghost use Rattle.text_resolve.specs.Refused.{Unless};
-ghost use Rattle.assembler.specs.Named.{NamesNothing, IsWhy};
+ghost use Rattle.text_resolve.specs.Refusals.{Unless};
+ghost use Rattle.assembler.specs.NamedModules.{NamesNothing, IsWhy};
 ghost use Rattle.wblock_line.specs.Answers.{CountsFault, IsOfFile};
 ghost use Rattle.wblock_modules.specs.Assembles.{told, refusal_line, IsSpelled, IsRefusalOf, IsAnswer, Assembles};
 

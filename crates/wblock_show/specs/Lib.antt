@@ -1,5 +1,5 @@
 pub mod Draws
 pub mod Json
 pub mod Lines
-pub mod Named
+pub mod FileAnswers
 pub mod Shows

@@ -3,7 +3,7 @@
 
 ghost use Rattle.std.specs.Prelude.{◌≡◌, IsTrue, IfOk, IfErr, OnOk};
 ghost use Rattle.wblock_line.specs.Answers.{CountsFault, IsOfFile};
-ghost use Rattle.wblock_show.specs.Named.{IsAnswerTo, IsNextNamed, ShowsLines, ShowsNamed};
+ghost use Rattle.wblock_show.specs.FileAnswers.{IsAnswerTo, IsNextNamed, ShowsLines, ShowsNamed};
 ghost use Rattle.wblock_show.specs.Shows.{IsNextFile};
 
 use crate::draw::draw_named;

@@ -12,7 +12,7 @@ use Rattle.spec_block.specs.Worlds.{Contract}
 use Rattle.spec_block.proofs.OneWorld.{TreesAreUnique}
 use Rattle.body_typing.specs.declared.scope.TypeRefusal.{TypeRefusal}
 use Rattle.body_typing.specs.declared.scope.TypeRefusal.TheVariants.{At, NoMemory}
-use Rattle.typing.specs.Judged.{Denies}
+use Rattle.typing.specs.CheckResults.{Denies}
 use Rattle.link.specs.declared.refusal.LinkRefusal.{LinkRefusal}
 use Rattle.link.specs.declared.refusal.LinkRefusal.TheVariants as refusal
 use Rattle.link.specs.Refusals.{Says}

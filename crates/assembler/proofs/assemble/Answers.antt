@@ -1,9 +1,9 @@
 use Rattle.std.proofs.Common.{subst, sym, List}
-use Rattle.spec_text.specs.Named as N
+use Rattle.spec_text.specs.FieldsOfBytes as N
 use Rattle.spec_text.specs.Fields.{Resolves}
 use Rattle.module_tree.specs.Modules.{module_view}
 use Rattle.text_tree.specs.Places.{fields_of}
-use Rattle.assembler.specs.Named.{ResolveToNothing}
+use Rattle.assembler.specs.NamedModules.{ResolveToNothing}
 use Rattle.assembler.proofs.Naming.{named, not_named, told, why_of_fields, makes_nothing, too_long}
 use Rattle.assembler.proofs.Unplaced.{fields_same}
 use Rattle.assembler.proofs.assemble.Goals as goal

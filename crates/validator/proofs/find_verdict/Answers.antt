@@ -1,6 +1,6 @@
 use Rattle.spec_block.specs.Verdicts.{IsVerdictOf}
 use Rattle.world.specs.Views.{world_view}
-use Rattle.validator.specs.Judged.{verdict_view}
+use Rattle.validator.specs.VerdictsFound.{verdict_view}
 use Rattle.validator.proofs.Fits.{told_first}
 use Rattle.validator.proofs.find_verdict.Goals as goal
 

@@ -1,5 +1,5 @@
 use Rattle.world.specs.Views.{world_view}
-use Rattle.validator.specs.Judged.{verdict_view}
+use Rattle.validator.specs.VerdictsFound.{verdict_view}
 use Rattle.validator.proofs.validate_alone.Goals as goal
 
 pub returns : goal.returns

@@ -1,7 +1,7 @@
 use Rattle.std.proofs.Common.{◌+◌, ◌<◌, ◌++◌, sym, subst, length, take, drop, get_or}
 use Rattle.std.specs.FinMap.{empty}
 use Rattle.abstract_locks.specs.Table.{AllShare}
-use Rattle.abstract_locks.specs.Held.{MayJoin}
+use Rattle.abstract_locks.specs.HeldLocks.{MayJoin}
 use Rattle.abstract_locks.proofs.Rows.{take_less, take_granted, take_asked}
 use Rattle.abstract_locks.proofs.Table.may_take.Goals as goal
 

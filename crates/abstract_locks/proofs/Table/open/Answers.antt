@@ -1,7 +1,7 @@
 use Rattle.std.proofs.Common.{◌<◌, ◌^◌, subst, sym, ap, ◌∙◌, length}
 use Rattle.std.proofs.lemmas.List.{length-replicate}
 use Rattle.std.specs.FinMap.{empty}
-use Rattle.abstract_locks.specs.Held.{AreShared}
+use Rattle.abstract_locks.specs.HeldLocks.{AreShared}
 use Rattle.abstract_locks.proofs.Rows.{nobody}
 use Rattle.abstract_locks.proofs.Table.open.Goals as goal
 

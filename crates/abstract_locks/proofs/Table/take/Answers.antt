@@ -2,7 +2,7 @@ use Rattle.std.proofs.Common.{◌≡◌, ◌+◌, ◌<◌, ◌^◌, ◌++◌, tr
 use Rattle.std.proofs.lemmas.List.{length-set}
 use Rattle.std.specs.FinMap.{empty}
 use Rattle.abstract_locks.specs.Table.{AllShare}
-use Rattle.abstract_locks.specs.Held.{MayJoin}
+use Rattle.abstract_locks.specs.HeldLocks.{MayJoin}
 use Rattle.abstract_locks.proofs.Rows.{take_less, take_conflict, take_granted, take_fits, take_shared, restored, put_there, kept_shared}
 use Rattle.abstract_locks.proofs.Table.take.Goals as goal
 

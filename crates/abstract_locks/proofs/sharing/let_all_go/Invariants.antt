@@ -1,7 +1,7 @@
 use Rattle.std.proofs.Common.{List, ◌++◌, ◌∷◌}
 use Rattle.std.specs.FinMap.{len}
 use Rattle.spec_ledger.specs.Modes.{Modes}
-use Rattle.abstract_locks.specs.Held.{AreShared}
+use Rattle.abstract_locks.specs.HeldLocks.{AreShared}
 use Rattle.abstract_locks.proofs.sharing.let_all_go.Given as goal
 
 abbrev pub invariant-loop-lock : goal.invariant-loop-lock

@@ -1,6 +1,6 @@
 use Rattle.std.proofs.Common.{◌≡◌, ◌<◌, ◌≤◌, length, get_or, map, arith, rules}
 use Rattle.text_tree.specs.Views.{field_of}
-use Rattle.assembler.specs.Counted.{count_funcs}
+use Rattle.assembler.specs.FunctionCounts.{count_funcs}
 use Rattle.assembler.proofs.Counting.{count_more, all_counted}
 use Rattle.assembler.proofs.collect.count_funcs.Goals as goal
 

@@ -1,6 +1,6 @@
 use Rattle.std.proofs.Common.{◌≡◌, ◌+◌, map, drop}
 use Rattle.text_tree.specs.Views.{field_of}
-use Rattle.assembler.specs.Counted.{count_funcs}
+use Rattle.assembler.specs.FunctionCounts.{count_funcs}
 use Rattle.assembler.proofs.collect.count_funcs.Given as goal
 
 abbrev pub invariant-loop-field : goal.invariant-loop-field

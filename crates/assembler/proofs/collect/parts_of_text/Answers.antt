@@ -6,8 +6,8 @@ use Rattle.text_tree.specs.Views.{field_of}
 use Rattle.text_resolve.specs.Views.{spaces_of}
 use Rattle.text_fields.specs.PartView.{part_view}
 use Rattle.text_fields.proofs.Parting.{hand_on}
-use Rattle.assembler.specs.Made.{make_at}
-use Rattle.assembler.specs.Counted.{defined_funcs, count_defined}
+use Rattle.assembler.specs.ModuleParts.{make_at}
+use Rattle.assembler.specs.FunctionCounts.{defined_funcs, count_defined}
 use Rattle.assembler.specs.PartsView.{parts_view, with_types, AreInRange}
 use Rattle.assembler.proofs.Collecting.{enough, counted_down, one_more, range_kept, begun, no_fields_left, none_of_part, none_put}
 use Rattle.assembler.proofs.collect.parts_of_text.Goals as goal

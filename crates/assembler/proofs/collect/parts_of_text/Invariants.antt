@@ -3,8 +3,8 @@ use Rattle.spec_text.specs.Fields.{count_imported}
 use Rattle.module_tree.specs.ModuleView.{func_type_view}
 use Rattle.text_tree.specs.Views.{field_of}
 use Rattle.text_resolve.specs.Views.{spaces_of}
-use Rattle.assembler.specs.Made.{make_at}
-use Rattle.assembler.specs.Counted.{count_defined}
+use Rattle.assembler.specs.ModuleParts.{make_at}
+use Rattle.assembler.specs.FunctionCounts.{count_defined}
 use Rattle.assembler.specs.PartsView.{parts_view, with_types, are_parts_numbered, AreInRange}
 use Rattle.assembler.proofs.collect.parts_of_text.Given as goal
 

@@ -1,5 +1,5 @@
 use Rattle.std.proofs.Common.{◌≡◌, ◌<◌, ◌∙◌, length, get_or, arith, rules, refl}
-use Rattle.body_typing.specs.Checked.{context_at}
+use Rattle.body_typing.specs.CheckResults.{context_at}
 use Rattle.body_typing.proofs.Blocks.{at_if_else, all_refused, all_goes_on}
 use Rattle.body_typing.proofs.check.+check.Goals as goal
 

@@ -2,7 +2,7 @@ use Rattle.std.proofs.Common.{◌≡◌, ◌∷◌, ◌++◌, [], drop}
 use Rattle.spec_typing.specs.Typing.{in_block}
 use Rattle.spec_typing.specs.Principal.{run, empty}
 use Rattle.module_tree.specs.View.{instrs_view}
-use Rattle.body_typing.specs.Checked.{context_at}
+use Rattle.body_typing.specs.CheckResults.{context_at}
 use Rattle.body_typing.proofs.check.+check.Given as goal
 
 abbrev pub invariant-check_all-loop-i : goal.invariant-check_all-loop-i

@@ -4,7 +4,7 @@ use Rattle.spec_modules.specs.Syntax.{FuncType}
 use Rattle.spec_typing.specs.Typing.{Context, Typed, of}
 use Rattle.spec_typing.specs.Modules.{type_at, result_of}
 use Rattle.module_tree.specs.View.{instrs_view}
-use Rattle.body_typing.specs.Checked.{spaces_view, Tells}
+use Rattle.body_typing.specs.CheckResults.{spaces_view, Tells}
 use Rattle.module_tree.specs.ModuleView.{func_type_view}
 use Rattle.body_typing.proofs.Blocks.{told, body_refused, body_ends, body_fails}
 use Rattle.body_typing.proofs.check.check_func.Goals as goal

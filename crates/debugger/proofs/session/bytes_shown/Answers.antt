@@ -2,7 +2,7 @@ use Rattle.std.proofs.Common.{Option, is_some, sym, ap, ◌∙◌, subst}
 use Rattle.spec_ledger.specs.declared.Outcome.{Outcome}
 use Rattle.spec_execution.specs.Turns.{state_of}
 use Rattle.spec_execution.specs.Levels.{Level}
-use Rattle.interp.specs.Shown.{AreReadOf}
+use Rattle.interp.specs.MachineViews.{AreReadOf}
 use Rattle.debugger.proofs.Turning.{is_shown, ending_is, shown_last, shown_inner}
 use Rattle.debugger.proofs.session.bytes_shown.Goals as goal
 

@@ -1,6 +1,6 @@
 use Rattle.std.proofs.Common.{◌≡◌, ◌-◌, ap, subst, arith}
 use Rattle.std.specs.Prelude.{◌⊎◌, IsSome}
-use Rattle.interp.specs.Shown.{ending}
+use Rattle.interp.specs.MachineViews.{ending}
 use Rattle.debugger.proofs.Keeping.{leads_to}
 use Rattle.debugger.proofs.session.state_after.Goals as goal
 

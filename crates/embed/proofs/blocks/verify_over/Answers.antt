@@ -1,6 +1,6 @@
 use Rattle.std.proofs.lemmas.Result.{IfErr-weaker, IfOk-weaker}
 use Rattle.world.specs.Views.{world_view}
-use Rattle.validator.specs.Judged.{verdict_view}
+use Rattle.validator.specs.VerdictsFound.{verdict_view}
 use Rattle.embed.specs.Refusals.{IsRejection, Rejects}
 use Rattle.embed.proofs.Refusing.{if_refused}
 use Rattle.embed.proofs.Rejecting.{accepts}

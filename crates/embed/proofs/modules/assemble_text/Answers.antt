@@ -1,4 +1,4 @@
-use Rattle.assembler.specs.Named.{NamesNothing}
+use Rattle.assembler.specs.NamedModules.{NamesNothing}
 use Rattle.embed.specs.Refusals.{IsToldAs, RefusesText}
 use Rattle.embed.proofs.Refusing.{if_refused, unless_told}
 use Rattle.embed.proofs.modules.assemble_text.Goals as goal

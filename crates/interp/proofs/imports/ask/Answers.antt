@@ -4,7 +4,7 @@ use Rattle.spec_execution.specs.Reduction.{Ask}
 use Rattle.std.specs.Prelude.{slice_index_or}
 use Rattle.laws_reduction.specs.Finding.{read_at}
 use Rattle.wtypes.specs.declared.HostCall.TheVariants.{Get}
-use Rattle.interp.specs.Asked.{effect_of_code}
+use Rattle.interp.specs.HostRequests.{effect_of_code}
 use Rattle.interp.specs.Run.{seen, IsWished}
 use Rattle.interp.proofs.Asking.{room_of}
 use Rattle.interp.proofs.Wishing.{to_call, is_wished, same_asked, asked_same}

@@ -4,7 +4,7 @@ use Rattle.spec_execution.specs.Turns.{state_of}
 use Rattle.interp.specs.Machine.{progress}
 use Rattle.interp.specs.Run.{seen}
 use Rattle.interp.proofs.Turning.{state_at}
-use Rattle.interp.specs.Shown.{AreReadOf}
+use Rattle.interp.specs.MachineViews.{AreReadOf}
 use Rattle.interp.proofs.readers.bytes_of_run.Goals as goal
 
 pub returns : goal.returns

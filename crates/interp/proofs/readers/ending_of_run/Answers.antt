@@ -3,7 +3,7 @@ use Rattle.std.specs.Prelude.{◌==◌}
 use Rattle.spec_ledger.specs.declared.Outcome.TheVariants.{Returned, OutOfFuel}
 use Rattle.interp.specs.declared.turns.Status.{Status}
 use Rattle.interp.specs.Machine.{on, progress}
-use Rattle.interp.specs.Shown.{ending}
+use Rattle.interp.specs.MachineViews.{ending}
 use Rattle.interp.specs.Run.{seen}
 use Rattle.interp_state.specs.Views.{items_of}
 use Rattle.interp_state.specs.ViewLaws.{items_nil}

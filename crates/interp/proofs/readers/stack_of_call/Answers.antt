@@ -3,7 +3,7 @@ use Rattle.interp_state.specs.Views.{opens_of}
 use Rattle.laws_reduction.specs.Meaning.{height}
 use Rattle.laws_reduction.specs.Branches.{in_call}
 use Rattle.interp.specs.Run.{seen}
-use Rattle.interp.specs.Shown.{leaves_stack, is_fallen}
+use Rattle.interp.specs.MachineViews.{leaves_stack, is_fallen}
 use Rattle.interp.proofs.Outlook.{left_within, stack_left, shows_stack, shows_no_stack, shows_trapped}
 use Rattle.interp.proofs.readers.stack_of_call.Goals as goal
 

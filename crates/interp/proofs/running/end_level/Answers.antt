@@ -4,7 +4,7 @@ use Rattle.interp.specs.declared.turns.Status.{Status}
 use Rattle.interp.specs.declared.turns.Turn.{Turn}
 use Rattle.interp.specs.Progress.{NextIs}
 use Rattle.interp.specs.Machine.{IsLeaving, HasRoom, progress}
-use Rattle.interp.specs.Asked.{number_of}
+use Rattle.interp.specs.HostRequests.{number_of}
 use Rattle.interp.specs.Run.{seen}
 use Rattle.interp_state.specs.Views.{items_of}
 use Rattle.interp.proofs.Around.{some_around}

@@ -2,7 +2,7 @@ use Rattle.std.proofs.Common.{refl, subst}
 use Rattle.wtypes.specs.declared.PlainInstr.{PlainInstr}
 use Rattle.laws_reduction.specs.Plain.{at_once}
 use Rattle.laws_reduction.specs.Finding.{read_at}
-use Rattle.interp_state.specs.Held.{IsReadyToPush}
+use Rattle.interp_state.specs.TopmostValues.{IsReadyToPush}
 use Rattle.interp_state.proofs.Doing.{did_const, did_local_get}
 use Rattle.interp_state.proofs.plain_values.pushed_value.Goals as goal
 

@@ -2,7 +2,7 @@ use Rattle.std.proofs.Common.{refl, sym, ap, subst, ◌∷◌, [], ◌++◌}
 use Rattle.wtypes.specs.declared.Value.{Value}
 use Rattle.wtypes.specs.declared.PlainInstr.{PlainInstr}
 use Rattle.laws_reduction.specs.Plain.{at_once}
-use Rattle.interp_state.specs.Held.{Changes, IsReadyToChange}
+use Rattle.interp_state.specs.TopmostValues.{Changes, IsReadyToChange}
 use Rattle.interp_state.proofs.Doing.{did_unary, did_test, did_convert}
 use Rattle.interp_state.proofs.plain_values.unary_result.Goals as goal
 

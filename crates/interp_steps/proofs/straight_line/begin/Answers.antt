@@ -4,7 +4,7 @@ use Rattle.module_tree.specs.declared.instr.Instr.{Instr}
 use Rattle.laws_reduction.specs.Meaning.{Item, View, IsOrdered}
 use Rattle.laws_reduction.specs.Charging.{mk}
 use Rattle.interp_state.specs.Callee.{contract_of, base_of}
-use Rattle.interp_state.specs.Held.{Pushes, IsReadyToPush, pushes}
+use Rattle.interp_state.specs.TopmostValues.{Pushes, IsReadyToPush, pushes}
 use Rattle.instance.specs.States.{based}
 use Rattle.interp_state.specs.declared.parts.Parts.{Parts}
 use Rattle.interp_state.specs.Steps.{IsOrderedParts}

@@ -3,7 +3,7 @@ use Rattle.wtypes.specs.declared.Value.{Value}
 use Rattle.laws_reduction.specs.Meaning.{Charged}
 use Rattle.laws_reduction.specs.Charging.{mk}
 use Rattle.interp_state.specs.Callee.{contract_of, base_of}
-use Rattle.interp_state.specs.Held.{Pushes, IsReadyToPush}
+use Rattle.interp_state.specs.TopmostValues.{Pushes, IsReadyToPush}
 use Rattle.instance.specs.States.{based}
 use Rattle.interp_state.specs.Views.{view, items_of, opens_of}
 use Rattle.interp_steps.specs.StraightLine.{Walks, none, one_more, IsSafeFor, with_top, holding}

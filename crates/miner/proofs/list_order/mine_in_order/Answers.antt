@@ -1,6 +1,6 @@
 use Rattle.std.proofs.Common.{◌≡◌, ◌∙◌, ℕ, List, sym, ap, subst, arith}
 use Rattle.spec_ledger.specs.Order.{IsAdmissible}
-use Rattle.serial.specs.Ordered.{fuel_of_receipts}
+use Rattle.serial.specs.OrderOutcomes.{fuel_of_receipts}
 use Rattle.publish.specs.Publication.{limits}
 use Rattle.miner.proofs.InTurn.{known, serial, used, used_is}
 use Rattle.miner.proofs.list_order.mine_in_order.Goals as goal

@@ -7,7 +7,7 @@ use Rattle.spec_block.specs.Worlds.{World}
 use Rattle.spec_block.specs.Bytes.{world_bytes}
 use Rattle.spec_block.specs.Blocks.{positions, all_touched, world_after}
 use Rattle.world.specs.Views.{contract_view, world_view}
-use Rattle.serial.specs.Ordered.{ArePossible}
+use Rattle.serial.specs.OrderOutcomes.{ArePossible}
 use Rattle.serial.proofs.BlocksOrders.{as_many}
 use Rattle.miner.proofs.sealing.build_block_by.Goals as goal
 

@@ -4,7 +4,7 @@ use Rattle.serial.specs.Positions.{results_of}
 use Rattle.spec_block.specs.Worlds.{World}
 use Rattle.spec_block.specs.Bytes.{world_bytes}
 use Rattle.spec_block.specs.Blocks.{positions, all_touched}
-use Rattle.serial.specs.Ordered.{fuel_of_receipts}
+use Rattle.serial.specs.OrderOutcomes.{fuel_of_receipts}
 use Rattle.serial.proofs.BlocksLimits.{fuel_is}
 use Rattle.serial.proofs.BlocksOrders.{as_many}
 use Rattle.serial.proofs.blocks.build_block.Goals as goal

@@ -2,7 +2,7 @@ use Rattle.std.proofs.Common.{cond, sym, subst}
 use Rattle.std.specs.Prelude.{All}
 use Rattle.spec_execution.specs.ReadWriteSets.{IsReadWriteSet}
 use Rattle.interp.specs.Callee.{setting_view}
-use Rattle.serial.specs.Found.{IsFoundBy}
+use Rattle.serial.specs.FoundCells.{IsFoundBy}
 use Rattle.serial.specs.Touches.{found_in, later_in}
 use Rattle.serial.proofs.OverViewEnding.{behind_is, executed_beside, found_are, put_behind}
 use Rattle.serial.proofs.Reading.{all_found}

@@ -1,5 +1,5 @@
 use Rattle.std.proofs.Common.{◌≡◌, ◌+◌, drop}
-use Rattle.serial.specs.Ordered.{fuel_of_receipts}
+use Rattle.serial.specs.OrderOutcomes.{fuel_of_receipts}
 use Rattle.serial.proofs.positions.fuel_of.Given as goal
 
 abbrev pub invariant-loop-receipt : goal.invariant-loop-receipt

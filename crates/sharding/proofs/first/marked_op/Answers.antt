@@ -1,7 +1,7 @@
 use Rattle.std.proofs.Common.{◌∙◌, [], refl, sym, ap, subst}
 use Rattle.spec_ledger.specs.Book.{Content}
 use Rattle.spec_ledger.specs.Events.{IsConflict, IsFound}
-use Rattle.boost.specs.Numbered.{BegunWith, marked}
+use Rattle.boost.specs.AttemptNumbers.{BegunWith, marked}
 use Rattle.boost.proofs.Events.{found_not_stale}
 use Rattle.sharding.proofs.first.marked_op.Goals as goal
 

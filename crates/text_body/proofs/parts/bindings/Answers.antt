@@ -2,7 +2,7 @@ use Rattle.std.proofs.Common.{◌<◌, List, Some, length, map, sym, ap, ◌∙�
 use Rattle.std.specs.Prelude.{IfSome, option_map}
 use Rattle.std.proofs.lemmas.List.{map_push, length-map}
 use Rattle.std.proofs.lemmas.Result.{err_from_is_err_and}
-use Rattle.spec_text.specs.Placed as N
+use Rattle.spec_text.specs.FieldsOfPlaces as N
 use Rattle.lexer.specs.WordsViews.{view, views}
 use Rattle.text_body.specs.Places.{binding_of}
 use Rattle.text_body.specs.Reading.{binding_at, next_at, bindings_at}

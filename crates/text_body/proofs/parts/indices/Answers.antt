@@ -1,6 +1,6 @@
 use Rattle.std.proofs.Common.{◌<◌, List, length, map, sym, ap, ◌∙◌, subst, arith}
 use Rattle.std.proofs.lemmas.List.{map_push, length-map}
-use Rattle.spec_text.specs.Placed as N
+use Rattle.spec_text.specs.FieldsOfPlaces as N
 use Rattle.lexer.specs.WordsViews.{view, views}
 use Rattle.text_body.specs.Places.{index_of}
 use Rattle.text_body.specs.Reading.{next_index_at, indices_at}

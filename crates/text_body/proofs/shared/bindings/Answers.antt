@@ -1,10 +1,10 @@
 use Rattle.std.proofs.Common.{List, map}
 use Rattle.spec_text.specs.Words.{Word}
-use Rattle.spec_text.specs.Placed as N
+use Rattle.spec_text.specs.FieldsOfPlaces as N
 use Rattle.spec_text.specs.Grammar.{Bindings}
 use Rattle.lexer.specs.WordsViews.{views}
 use Rattle.text_body.specs.Places.{binding_of}
-use Rattle.text_body.specs.Shared.{NoneOf}
+use Rattle.text_body.specs.SharedParts.{NoneOf}
 use Rattle.text_body.specs.Reading.{bindings_at, key_of}
 use Rattle.text_body.proofs.Pieces.{bindings_read, bindings_found}
 use Rattle.text_body.proofs.Sharing.{granted, denied, none_of}

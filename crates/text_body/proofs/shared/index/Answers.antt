@@ -1,9 +1,9 @@
 use Rattle.std.proofs.Common.{List}
 use Rattle.spec_text.specs.Words.{Word}
-use Rattle.spec_text.specs.Placed as N
+use Rattle.spec_text.specs.FieldsOfPlaces as N
 use Rattle.lexer.specs.WordsViews.{views}
 use Rattle.text_body.specs.Places.{index_of}
-use Rattle.text_body.specs.Shared.{OneIndex, NoneOf}
+use Rattle.text_body.specs.SharedParts.{OneIndex, NoneOf}
 use Rattle.text_body.specs.Reading.{index_at}
 use Rattle.text_body.proofs.Pieces.{index_found}
 use Rattle.text_body.proofs.Sharing.{granted, denied, none_of, index_is}

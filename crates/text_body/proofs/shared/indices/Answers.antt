@@ -1,10 +1,10 @@
 use Rattle.std.proofs.Common.{List, map}
 use Rattle.spec_text.specs.Words.{Word}
-use Rattle.spec_text.specs.Placed as N
+use Rattle.spec_text.specs.FieldsOfPlaces as N
 use Rattle.spec_text.specs.Grammar.{Indices}
 use Rattle.lexer.specs.WordsViews.{views}
 use Rattle.text_body.specs.Places.{index_of}
-use Rattle.text_body.specs.Shared.{NoneOf}
+use Rattle.text_body.specs.SharedParts.{NoneOf}
 use Rattle.text_body.specs.Reading.{indices_at}
 use Rattle.text_body.proofs.Pieces.{indices_read, indices_found}
 use Rattle.text_body.proofs.Sharing.{granted, denied, none_of}

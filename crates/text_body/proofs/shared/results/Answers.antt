@@ -3,7 +3,7 @@ use Rattle.spec_text.specs.Words.{Word}
 use Rattle.wtypes.specs.declared.ValType.{ValType}
 use Rattle.spec_text.specs.Grammar.{Results}
 use Rattle.lexer.specs.WordsViews.{views}
-use Rattle.text_body.specs.Shared.{NoneOf}
+use Rattle.text_body.specs.SharedParts.{NoneOf}
 use Rattle.text_body.specs.Reading.{results_at}
 use Rattle.text_body.proofs.Pieces.{results_read, results_found}
 use Rattle.text_body.proofs.Sharing.{granted, denied, none_of}

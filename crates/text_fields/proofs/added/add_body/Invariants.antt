@@ -3,7 +3,7 @@ use Rattle.std.specs.List.{flat_map}
 use Rattle.spec_text.specs.TypeUses.{inline_of_flat}
 use Rattle.module_tree.specs.ModuleView.{func_type_view}
 use Rattle.text_body.specs.Views.{flat_of}
-use Rattle.text_fields.specs.Added.{added}
+use Rattle.text_fields.specs.AddedTypes.{added}
 use Rattle.text_fields.proofs.added.add_body.Given as goal
 
 abbrev pub invariant-loop-flat : goal.invariant-loop-flat

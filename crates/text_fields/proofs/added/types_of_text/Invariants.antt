@@ -4,7 +4,7 @@ use Rattle.spec_text.specs.TypeUses.{inline_of_field}
 use Rattle.spec_text.specs.Fields.{declared_type}
 use Rattle.module_tree.specs.ModuleView.{func_type_view}
 use Rattle.text_tree.specs.Views.{field_of}
-use Rattle.text_fields.specs.Added.{added}
+use Rattle.text_fields.specs.AddedTypes.{added}
 use Rattle.text_fields.proofs.added.types_of_text.Given as goal
 
 abbrev pub invariant-loop-field : goal.invariant-loop-field

@@ -8,7 +8,7 @@ use Rattle.spec_text.specs.Spaces.{Names}
 use Rattle.text_body.specs.Views.{text_of, flat_of, opener_of}
 use Rattle.text_body.specs.declared.flat.Flat.TheVariants as flat
 use Rattle.text_body.specs.declared.flat.Opener.TheVariants as opener
-use Rattle.spec_text.specs.Named as N
+use Rattle.spec_text.specs.FieldsOfBytes as N
 use Rattle.spec_modules.specs.Syntax as S
 use Rattle.text_resolve.proofs.Lookups.{hand_on}
 use Rattle.text_resolve.specs.Views.{spaces_of, flats_from}

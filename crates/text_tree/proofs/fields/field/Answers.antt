@@ -1,8 +1,8 @@
 use Rattle.std.proofs.Common.{List, sym, ◌∙◌}
 use Rattle.spec_text.specs.Words.{Word}
-use Rattle.spec_text.specs.Placed as N
+use Rattle.spec_text.specs.FieldsOfPlaces as N
 use Rattle.lexer.specs.WordsViews.{views}
-use Rattle.text_body.specs.Shared.{NoneOf}
+use Rattle.text_body.specs.SharedParts.{NoneOf}
 use Rattle.text_body.proofs.Pieces.{some_none}
 use Rattle.text_body.proofs.Sharing.{granted, denied}
 use Rattle.text_tree.specs.Places.{field_of}

@@ -4,7 +4,7 @@ use Rattle.std.proofs.lemmas.Bool.{eqb-true}
 use Rattle.std.proofs.lemmas.List.{map_push}
 use Rattle.std.proofs.lemmas.Result.{err_from_is_err_and}
 use Rattle.spec_text.specs.Words as W
-use Rattle.spec_text.specs.Placed as N
+use Rattle.spec_text.specs.FieldsOfPlaces as N
 use Rattle.lexer.specs.declared.word.Word.{Word}
 use Rattle.lexer.specs.WordsViews.{view, views}
 use Rattle.text_body.proofs.Repeats.{hand_on}

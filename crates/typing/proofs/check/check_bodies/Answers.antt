@@ -1,5 +1,5 @@
 use Rattle.std.proofs.Common.{◌≡◌, ◌<◌, length, get_or, arith, rules}
-use Rattle.body_typing.specs.Checked.{spaces_view}
+use Rattle.body_typing.specs.CheckResults.{spaces_view}
 use Rattle.typing.proofs.Bodies.{type_of_func, passed_at, refused_at}
 use Rattle.typing.proofs.check.check_bodies.Goals as goal
 

@@ -1,7 +1,7 @@
 use Rattle.std.proofs.Common.{◌≡◌, drop, map}
 use Rattle.std.specs.List.{list_all}
 use Rattle.module_tree.specs.ModuleView.{func_view}
-use Rattle.body_typing.specs.Checked.{spaces_view}
+use Rattle.body_typing.specs.CheckResults.{spaces_view}
 use Rattle.typing.specs.Tests.{body_passes}
 use Rattle.typing.proofs.check.check_bodies.Given as goal
 

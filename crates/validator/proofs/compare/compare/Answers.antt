@@ -2,7 +2,7 @@ use Rattle.std.proofs.Common.{ℕ, List, IfNone, IfSome, ap, ◌∙◌, sym}
 use Rattle.spec_execution.specs.Serial.{CallResult}
 use Rattle.spec_block.specs.Worlds.{Position}
 use Rattle.spec_block.specs.Verdicts.{IsLeast, IsOther}
-use Rattle.serial.specs.Ordered.{fuel_of_receipts}
+use Rattle.serial.specs.OrderOutcomes.{fuel_of_receipts}
 use Rattle.validator.proofs.Ends.{shown}
 use Rattle.validator.proofs.compare.compare.Goals as goal
 

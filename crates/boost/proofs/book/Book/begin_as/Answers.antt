@@ -4,7 +4,7 @@ use Rattle.spec_ledger.specs.Book.{Content, call_is_new}
 use Rattle.spec_ledger.specs.Events.{HasNoAttempt}
 use Rattle.boost.specs.declared.standing.CallState.TheVariants.{Live}
 use Rattle.boost.specs.BookInvariant.{IsBook}
-use Rattle.boost.specs.Numbered.{BegunAs, IsPassed}
+use Rattle.boost.specs.AttemptNumbers.{BegunAs, IsPassed}
 use Rattle.boost.proofs.Room.{no_room, succeeded}
 use Rattle.boost.proofs.Events.{idle_before, live_before, live_new, committed_before, committed_alone, standing_below}
 use Rattle.boost.proofs.Numbered.{IsBook-begin_as, BegunAs-begin_as}

@@ -3,7 +3,7 @@ use Rattle.std.proofs.lemmas.List.{length-set}
 use Rattle.spec_ledger.specs.Book.{Content, back_all}
 use Rattle.spec_ledger.specs.Events.{CommitDone, IsStale}
 use Rattle.boost.specs.declared.standing.CallState.TheVariants.{Committed}
-use Rattle.boost.specs.Numbered.{HasTrace}
+use Rattle.boost.specs.AttemptNumbers.{HasTrace}
 use Rattle.boost.proofs.Events.{are_standing, call_row, later_known, call_standing, may_close_of, few_entries, found_here, found_not_stale, kept_trace, IsBook-commit, CommitDone-commit}
 use Rattle.boost.proofs.book.Book.end.Goals as goal
 

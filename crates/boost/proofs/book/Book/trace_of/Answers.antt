@@ -2,7 +2,7 @@ use Rattle.std.proofs.Common.{subst, ◌≡◌}
 use Rattle.std.specs.List.{AllByRecursion}
 use Rattle.spec_ledger.specs.Book.{Content}
 use Rattle.spec_ledger.specs.Events.{IsStale}
-use Rattle.boost.specs.Numbered.{HasTrace}
+use Rattle.boost.specs.AttemptNumbers.{HasTrace}
 use Rattle.boost.proofs.Events.{are_standing, trace_at}
 use Rattle.boost.proofs.book.Book.trace_of.Goals as goal
 

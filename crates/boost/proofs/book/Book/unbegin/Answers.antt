@@ -1,7 +1,7 @@
 use Rattle.std.proofs.Common.{◌≡◌, ◌+◌, ◌-◌, get_or, set, slice_get, length, refl, sym, ◌∙◌, ap, subst, arith}
 use Rattle.std.proofs.lemmas.Grind.{get_or_default_zero}
 use Rattle.spec_ledger.specs.Book.{Attempt, Content, fresh}
-use Rattle.boost.specs.Numbered.{BegunAs}
+use Rattle.boost.specs.AttemptNumbers.{BegunAs}
 use Rattle.boost.proofs.Events.{last_row, last_standing}
 use Rattle.boost.proofs.Numbered.{split_last, known_call, counted_past, IsBook-unbegin, BegunAs-unbegin, only_former}
 use Rattle.boost.proofs.book.Book.unbegin.Goals as goal

@@ -1,6 +1,6 @@
 use Rattle.std.proofs.Common.{◌≡◌, ◌-◌, [], length, refl, ◌∙◌, arith}
 use Rattle.spec_ledger.specs.Book.{Content}
-use Rattle.boost.specs.Numbered.{after_begin_with}
+use Rattle.boost.specs.AttemptNumbers.{after_begin_with}
 use Rattle.boost.proofs.Remarking.{remarks, IsBook-remark, BegunAs-unmark}
 use Rattle.boost.proofs.book.Book.unmark.Goals as goal
 

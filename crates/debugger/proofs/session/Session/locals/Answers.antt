@@ -1,7 +1,7 @@
 use Rattle.std.proofs.Common.{Option, ap, ◌∙◌}
 use Rattle.spec_ledger.specs.declared.Outcome.{Outcome}
 use Rattle.spec_execution.specs.Turns.{locals_of}
-use Rattle.interp.specs.Shown.{unless_ended}
+use Rattle.interp.specs.MachineViews.{unless_ended}
 use Rattle.debugger.specs.SessionView.{locals_at}
 use Rattle.debugger.proofs.Turning.{is_shown, ending_is}
 use Rattle.debugger.proofs.session.Session.locals.Goals as goal

@@ -1,5 +1,5 @@
 use Rattle.std.proofs.Common.{subst}
-use Rattle.interp.specs.Played.{IsPlayed}
+use Rattle.interp.specs.FinishedCalls.{IsPlayed}
 use Rattle.interp.proofs.finished.Finished.is_played.Goals as goal
 
 pub returns : goal.returns

@@ -4,7 +4,7 @@ use Rattle.spec_ledger.specs.declared.Outcome.TheVariants.{Rejected}
 use Rattle.spec_execution.specs.Run.{Refused}
 use Rattle.spec_execution.specs.Levels.{RunsWith, refused}
 use Rattle.interp.specs.Callee.{setting_view}
-use Rattle.interp.specs.Played.{Played}
+use Rattle.interp.specs.FinishedCalls.{Played}
 use Rattle.interp.specs.Starting.{IsOpened}
 use Rattle.interp.proofs.finished.Finished.of_rejection.Goals as goal
 

@@ -3,7 +3,7 @@ use Rattle.spec_ledger.specs.declared.TraceStep.{TraceStep}
 use Rattle.spec_ledger.specs.declared.Outcome.TheVariants.{OutOfFuel}
 use Rattle.spec_execution.specs.Levels.{RunsWith}
 use Rattle.interp.specs.Callee.{setting_view}
-use Rattle.interp.specs.Played.{Played}
+use Rattle.interp.specs.FinishedCalls.{Played}
 use Rattle.interp.specs.Starting.{HasCode}
 use Rattle.interp.proofs.Beginning.{safe_of, all_linked}
 use Rattle.interp.proofs.Unfuelled.{runs_out}

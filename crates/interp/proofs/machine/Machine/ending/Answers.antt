@@ -1,5 +1,5 @@
 use Rattle.std.proofs.Common.{ap, ◌∙◌, sym, subst}
-use Rattle.interp.specs.Shown.{ending, IsShown}
+use Rattle.interp.specs.MachineViews.{ending, IsShown}
 use Rattle.interp.proofs.machine.Machine.ending.Goals as goal
 
 pub returns : goal.returns

@@ -1,5 +1,5 @@
 use Rattle.std.proofs.Common.{ap, ◌∙◌, sym, subst}
-use Rattle.interp.specs.Shown.{locals_shown, IsShown}
+use Rattle.interp.specs.MachineViews.{locals_shown, IsShown}
 use Rattle.interp.proofs.machine.Machine.locals.Goals as goal
 
 pub returns : goal.returns

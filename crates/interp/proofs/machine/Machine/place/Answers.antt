@@ -1,5 +1,5 @@
 use Rattle.std.proofs.Common.{ap, ◌∙◌, sym, subst}
-use Rattle.interp.specs.Shown.{place_shown, IsShown}
+use Rattle.interp.specs.MachineViews.{place_shown, IsShown}
 use Rattle.interp.proofs.machine.Machine.place.Goals as goal
 
 pub returns : goal.returns

@@ -1,5 +1,5 @@
 use Rattle.std.proofs.Common.{ap, ◌∙◌, sym, subst}
-use Rattle.interp.specs.Shown.{stack_shown, IsShown}
+use Rattle.interp.specs.MachineViews.{stack_shown, IsShown}
 use Rattle.interp.proofs.machine.Machine.stack.Goals as goal
 
 pub returns : goal.returns

@@ -5,7 +5,7 @@ use Rattle.spec_ledger.specs.Events.{HasNoAttempt, IsStale}
 use Rattle.std.specs.declared.result.Result.TheVariants.{Err}
 use Rattle.boost.specs.declared.book.BeginAsRefusal.TheVariants.{NoSuchCall, Live, Committed, Passed}
 use Rattle.boost.specs.declared.book.OpRefusal.TheVariants.{Stale}
-use Rattle.boost.specs.Numbered.{BegunAs}
+use Rattle.boost.specs.AttemptNumbers.{BegunAs}
 use Rattle.sharding.specs.Shard.{Shard}
 use Rattle.sharding.proofs.Tickets.{stable, none_stale}
 use Rattle.sharding.proofs.Waiting.{begun_here, count_here, first_ok, first_waits, first_err, first_entries, again_ok, again_waits, still_shard, still_room, err_map, passed_never_waits, unknown_never_waits, committed_never_waits, over_stale, over_waits, behind_stale, behind_waits, not_over}

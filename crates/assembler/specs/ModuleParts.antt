@@ -3,7 +3,7 @@ use Rattle.std.specs.Prelude.{◌≡◌, ℕ, suc, List, [], ◌∷◌, ◌++◌
 use Rattle.std.specs.List.{All}
 use Rattle.spec_modules.specs.Syntax as S
 use Rattle.spec_modules.specs.Spells.{ExpressionFits}
-use Rattle.spec_text.specs.Named as N
+use Rattle.spec_text.specs.FieldsOfBytes as N
 use Rattle.spec_text.specs.Spaces.{Spaces}
 use Rattle.spec_text.specs.Fields.{Makes}
 use Rattle.text_resolve.specs.Types.{is_empty}

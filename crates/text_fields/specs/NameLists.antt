@@ -1,7 +1,7 @@
 -- The names of index spaces, as they are listed.
 use Rattle.std.specs.Prelude.{◌≡◌, List, [], ◌∷◌, Option, Some, None}
 use Rattle.lexer.specs.declared.word.Piece.{Piece}
-use Rattle.spec_text.specs.Named.{Field}
+use Rattle.spec_text.specs.FieldsOfBytes.{Field}
 use Rattle.spec_text.specs.Spaces.{Names, Spaces}
 use Rattle.spec_text.specs.Fields.{AreSpaces, type_name, func_name, table_name, memory_name, global_name}
 use Rattle.text_body.specs.Views.{text_of}

@@ -3,8 +3,8 @@ use Rattle.std.specs.Prelude.{List, ℕ}
 use Rattle.spec_modules.specs.Syntax.{Module}
 use Rattle.spec_modules.specs.Spells.{ModuleFits}
 use Rattle.spec_text.specs.Lexical.{Token, Lexes}
-use Rattle.spec_text.specs.Named.{Field}
-use Rattle.spec_text.specs.Placed as P
+use Rattle.spec_text.specs.FieldsOfBytes.{Field}
+use Rattle.spec_text.specs.FieldsOfPlaces as P
 use Rattle.spec_text.specs.Fields.{Resolves}
 use Rattle.spec_text.specs.Names.{Names}
 use Rattle.text_tree.specs.Texts.{IsText, NoText}

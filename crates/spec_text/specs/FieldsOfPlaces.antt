@@ -3,7 +3,7 @@ use Rattle.std.specs.Prelude.{List, map}
 pub use Rattle.spec_text.specs.Forms.{Numbered, Named, Opener, Block, Loop, If, Simple, Indexed, BrTable, CallIndirect, Load, Store, Const, Opens, Else, End, Kind, OfFunc, OfTable, OfMemory, OfGlobal, FuncDesc, TableDesc, MemoryDesc, GlobalDesc, TypeField, ImportField, FuncField, TableField, MemoryField, GlobalField, ExportField, StartField, ElemField, DataField}
 use Rattle.spec_text.specs.Forms as F
 pub use Rattle.spec_text.specs.Words.{Placed}
-use Rattle.spec_text.specs.Named as N
+use Rattle.spec_text.specs.FieldsOfBytes as N
 
 abbrev pub Index : Type 0
 Index = F.Index Placed

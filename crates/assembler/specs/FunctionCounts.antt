@@ -1,6 +1,6 @@
 -- The functions of fields.
 use Rattle.std.specs.Prelude.{ℕ, ◌+◌, List, [], ◌∷◌}
-use Rattle.spec_text.specs.Named as N
+use Rattle.spec_text.specs.FieldsOfBytes as N
 use Rattle.spec_text.specs.Fields.{imported_funcs}
 
 -- 1 for a field that defines a function

@@ -2,7 +2,7 @@
 use Rattle.std.specs.Prelude.{◌≡◌, List, ◌∷◌, Bool, true, false}
 use Rattle.spec_text.specs.declared.KeyWord.{KeyWord}
 use Rattle.spec_text.specs.Words.{Word, LeftBracket, RightBracket, Key}
-use Rattle.spec_text.specs.Placed as N
+use Rattle.spec_text.specs.FieldsOfPlaces as N
 use Rattle.text_body.specs.declared.parts.Part.{Part}
 use Rattle.text_body.specs.Reading.{key_of}
 use Rattle.spec_text.specs.Grammar.{NotAhead, OptionalId, IsIndex, Indices, Bindings, Results, TypeUses}

@@ -5,7 +5,7 @@ use Rattle.spec_ledger.specs.Cells.{Cells}
 use Rattle.spec_ledger.specs.declared.Receipt.{Receipt}
 use Rattle.spec_ledger.specs.Modes.{Modes}
 use Rattle.serial.specs.Positions.{results_of}
-use Rattle.serial.specs.Ordered.{fuel_of_receipts}
+use Rattle.serial.specs.OrderOutcomes.{fuel_of_receipts}
 use Rattle.spec_block.specs.Worlds.{Block, Call, World}
 use Rattle.spec_block.specs.Bytes.{world_bytes}
 use Rattle.spec_block.specs.Blocks.{world_after}
