@@ -144,4 +144,4 @@ module _ (B : RattleType) (g : Ghosts B.Denot) (send : IsSend B) (sync : IsSync 
   finished_send a = search (crosses, vec_send, contracts_send) depth 60 fits 100000
 
   pub cells_sync : IsSync (cells_row.the_row B g)
-  cells_sync = search (crosses, maps_over.crosses) depth 60 fits 100000
+  cells_sync = search (crosses, maps_over.crosses, vec_sync) depth 60 fits 100000

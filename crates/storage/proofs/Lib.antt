@@ -1,5 +1,6 @@
 pub mod Listed
 pub mod Slots
 pub mod Counted
-pub mod Copied
+pub mod Merged
 mod Positions
+mod Place

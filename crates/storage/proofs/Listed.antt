@@ -1,20 +1,19 @@
 -- The cells of a store as a list in the order of locks.
-use Rattle.std.proofs.Common.{◌≡◌, ◌≢◌, ℕ, zero, suc, ◌<◌, ◌≤◌, ◌^◌, Bool, true, false, cond, ◌&&◌, Option, Some, None, List, [], ◌∷◌, ◌++◌, map, length, drop, get_or, refl, sym, ◌∙◌, ap, subst, arith}
+use Rattle.std.proofs.Common.{◌≡◌, ◌≢◌, ℕ, zero, suc, ◌<◌, ◌≤◌, Bool, true, false, cond, ◌&&◌, Option, Some, None, List, [], ◌∷◌, ◌++◌, map, length, drop, get_or, refl, sym, ◌∙◌, ap, subst, arith}
 use Rattle.std.specs.Prelude.{T}
 use Rattle.std.specs.declared.cmp.Ordering.{Ordering}
 use Rattle.std.specs.declared.cmp.Ordering.TheVariants.{Less, Equal, Greater}
 use Rattle.std.specs.Ordering.{eq_by_cmp, is_eq, is_lt, ordering_reverse}
 use Rattle.std.specs.List.{AllByRecursion}
-use Rattle.std.specs.List.Sorted.{IsStrictlySortedBy}
-use Rattle.std.specs.FinMap.{get, insert, remove, empty, entries, entries_sorted, get-entries, get-remove, entries-insert, len-entries, len-empty, from_entries, from_entries_push, get-from_entries, same_map, same_entries_map, find, put, is_sorted}
+use Rattle.std.specs.FinMap.{get, insert, entries, entries_sorted, get-entries, from_entries, from_entries_push, get-from_entries, same_map, same_entries_map, find, is_sorted}
 use Rattle.std.specs.FinMap.Entries.{below_all}
 use Rattle.spec_ledger.specs.declared.Kind.TheVariants.{Counter}
 use Rattle.spec_ledger.specs.declared.Lock.{Lock}
 use Rattle.spec_ledger.specs.declared.CellKey.{CellKey}
-use Rattle.spec_ledger.specs.Cells.{Cells, lock_cmp, set_at, counter_at, AreCells, IsCounter}
+use Rattle.spec_ledger.specs.Cells.{Cells, lock_cmp, counter_at, AreCells, IsCounter}
 use Rattle.spec_ledger.proofs.Maps.{key_itself, lock_cmp_total, lock_cmp-IsAntisymmetric}
 use Rattle.storage.specs.declared.Slot.{Slot}
-use Rattle.storage.specs.Slots.{cells_in, held_in, with_cell}
+use Rattle.storage.specs.Slots.{held_in, with_cell}
 
 pub first : (a b : Bool) → T (a && b) → T a
 first true b p = tt
@@ -24,7 +23,7 @@ pub second : (a b : Bool) → T (a && b) → T b
 second true b p = p
 second false b p = absurd p
 
-both : (a b : Bool) → T a → T b → T (a && b)
+pub both : (a b : Bool) → T a → T b → T (a && b)
 both true b p q = q
 both false b p q = p
 
@@ -33,49 +32,22 @@ is_less Less p = refl
 is_less Equal p = absurd p
 is_less Greater p = absurd p
 
-is_equal : (o : Ordering) → is_eq o ≡ true → o ≡ Equal
+pub is_equal : (o : Ordering) → is_eq o ≡ true → o ≡ Equal
 is_equal Less e = cc
 is_equal Equal e = refl
 is_equal Greater e = cc
 
-put_first : (k : Lock) (v : ℕ) (xs : List (Lock × ℕ)) → T (below_all lock_cmp k xs) → put lock_cmp k v xs ≡ (k, v) ∷ xs
-put_first k v [] h = refl
-put_first k v (x ∷ xs) h = let e : lock_cmp k x.0 ≡ Less = is_less (lock_cmp k x.0) (first _ _ h) in rw e refl
-
-find_below : (k : Lock) (xs : List (Lock × ℕ)) → T (below_all lock_cmp k xs) → find lock_cmp k xs ≡ None
+pub find_below : (k : Lock) (xs : List (Lock × ℕ)) → T (below_all lock_cmp k xs) → find lock_cmp k xs ≡ None
 find_below k [] h = refl
 find_below k (x ∷ xs) h = let e : lock_cmp k x.0 ≡ Less = is_less (lock_cmp k x.0) (first _ _ h) in rw e (find_below k xs (second _ _ h))
 
-below_with : (k l : Lock) (c : Option ℕ) (xs : List (Lock × ℕ)) → lock_cmp k l ≡ Less → T (below_all lock_cmp k xs) → T (below_all lock_cmp k (with_cell l c xs))
+pub below_with : (k l : Lock) (c : Option ℕ) (xs : List (Lock × ℕ)) → lock_cmp k l ≡ Less → T (below_all lock_cmp k xs) → T (below_all lock_cmp k (with_cell l c xs))
 below_with k l None xs e h = h
 below_with k l (Some v) xs e h = both (is_lt (lock_cmp k l)) (below_all lock_cmp k xs) (subst (λ o. T (is_lt o)) (sym e) tt) h
 
-below_held : (k : Lock) (es : List (Lock × Slot)) → AllByRecursion (λ l. lock_cmp k l ≡ Less) (map (λ e. e.0) es) → T (below_all lock_cmp k (held_in es))
+pub below_held : (k : Lock) (es : List (Lock × Slot)) → AllByRecursion (λ l. lock_cmp k l ≡ Less) (map (λ e. e.0) es) → T (below_all lock_cmp k (held_in es))
 below_held k [] h = tt
 below_held k (e ∷ es) h = below_with k e.0 e.1.cell (held_in es) h.0 (below_held k es h.1)
-
-entries-with : (m : Cells) (k : Lock) (c : Option ℕ) (xs : List (Lock × ℕ)) → entries m ≡ xs → T (below_all lock_cmp k xs) → entries (set_at m k c) ≡ with_cell k c xs
-entries-with m k None xs e h =
-    let none : get m k ≡ None = get-entries m k ∙ ap (find lock_cmp k) e ∙ find_below k xs h in
-    ap entries (same_map lock_cmp_total lock_cmp-IsAntisymmetric (remove m k) m (λ q.
-    get-remove lock_cmp_total m k q
-    ∙ elim (eq_by_cmp lock_cmp q k) as (λ b. eq_by_cmp lock_cmp q k ≡ b → cond b None (get m q) ≡ get m q) [
-      | true ↦ λ t. let same : q ≡ k = lock_cmp-IsAntisymmetric q k (is_equal (lock_cmp q k) t) in sym (ap (get m) same ∙ none)
-      | false ↦ λ _. refl
-    ] refl)) ∙ e
-entries-with m k (Some v) xs e h = entries-insert lock_cmp_total m k v ∙ ap (put lock_cmp k v) e ∙ put_first k v xs h
-
-no_length : (xs : List (Lock × ℕ)) → length xs ≡ 0 → xs ≡ []
-no_length [] e = refl
-no_length (x ∷ xs) e = absurd (omega (arith, e))
-
-entries-cells_in : (es : List (Lock × Slot)) → IsStrictlySortedBy lock_cmp (map (λ e. e.0) es) → entries (cells_in es) ≡ held_in es
-unfolding IsStrictlySortedBy
-entries-cells_in [] h = no_length (entries empty) (sym (len-entries empty) ∙ len-empty lock_cmp ℕ)
-entries-cells_in (e ∷ es) h = entries-with (cells_in es) e.0 e.1.cell (held_in es) (entries-cells_in es h.1) (below_held e.0 es h.0)
-
-pub entries_held : (es : List (Lock × Slot)) → IsStrictlySortedBy lock_cmp (map (λ e. e.0) es) → held_in es ≡ entries (cells_in es)
-entries_held es h = sym (entries-cells_in es h)
 
 -- ---- gone over entry by entry
 
@@ -98,7 +70,7 @@ found_there (x ∷ xs) k v ys h =
       | false ↦ λ e. found_there xs k v ys e
     ] h
 
-append_nil : (xs : List (Lock × ℕ)) → xs ≡ xs ++ []
+pub append_nil : (xs : List (Lock × ℕ)) → xs ≡ xs ++ []
 append_nil [] = refl
 append_nil (x ∷ xs) = ap (λ t. x ∷ t) (append_nil xs)
 
@@ -125,23 +97,20 @@ module _ (m : Cells) (xs : List (Lock × ℕ)) (k : Lock) (v : ℕ) (ys : List (
 pub copied_all : (m : Cells) (xs : List (Lock × ℕ)) → xs ++ [] ≡ entries m → from_entries xs ≡ m
 copied_all m xs all = same_map lock_cmp_total lock_cmp-IsAntisymmetric _ _ (λ q. get-from_entries lock_cmp_total xs q ∙ ap (find lock_cmp q) (append_nil xs ∙ all) ∙ sym (get-entries m q))
 
-append_one : (xs : List (Lock × ℕ)) (e : Lock × ℕ) (ys : List (Lock × ℕ)) → xs ++ e ∷ [] ++ ys ≡ xs ++ e ∷ ys
+pub append_one : (xs : List (Lock × ℕ)) (e : Lock × ℕ) (ys : List (Lock × ℕ)) → xs ++ e ∷ [] ++ ys ≡ xs ++ e ∷ ys
 append_one [] e ys = refl
 append_one (x ∷ xs) e ys = ap (λ t. x ∷ t) (append_one xs e ys)
 
 pub split_next : (xs : List (Lock × ℕ)) (e : Lock × ℕ) (ys its all : List (Lock × ℕ)) → its ≡ e ∷ ys → xs ++ its ≡ all → xs ++ e ∷ [] ++ ys ≡ all
 split_next xs e ys its all i f = append_one xs e ys ∙ ap (λ t. xs ++ t) (sym i) ∙ f
 
-length-with : (k : Lock) (c : Option ℕ) (xs : List (Lock × ℕ)) (n : ℕ) → length xs ≤ n → length (with_cell k c xs) ≤ suc n
+pub length-with : (k : Lock) (c : Option ℕ) (xs : List (Lock × ℕ)) (n : ℕ) → length xs ≤ n → length (with_cell k c xs) ≤ suc n
 length-with k None xs n h = omega (arith, h)
 length-with k (Some v) xs n h = omega (arith, h)
 
-length-held : (es : List (Lock × Slot)) → length (held_in es) ≤ length es
+pub length-held : (es : List (Lock × Slot)) → length (held_in es) ≤ length es
 length-held [] = omega arith
 length-held (e ∷ es) = length-with e.0 e.1.cell (held_in es) (length es) (length-held es)
-
-pub held_fits : (its es : List (Lock × Slot)) → its ≡ es → length es < 2 ^ 63 → length (held_in its) < 2 ^ 63
-held_fits its es e h = subst (λ xs. length (held_in xs) < 2 ^ 63) (sym e) (let l = length-held es in omega (arith, l, h))
 
 -- ---- two lists gone over side by side
 

@@ -1,5 +1,6 @@
 -- What slots hold, key by key.
-use Rattle.std.proofs.Common.{◌≡◌, ℕ, zero, suc, ◌+◌, ◌-◌, ◌<◌, ◌≤◌, ◌^◌, arith, Bool, true, false, cond, Option, Some, None, unwrap_or, List, [], ◌∷◌, refl, sym, ◌∙◌, ap, subst}
+use Rattle.std.proofs.Common.{◌≡◌, ◌≢◌, ℕ, zero, suc, ◌+◌, ◌-◌, ◌<◌, ◌≤◌, ◌^◌, arith, Bool, true, false, cond, if◌then◌else◌, length, Option, Some, None, Result, Ok, Err, OnErr, unwrap_or, List, [], ◌∷◌, refl, sym, ◌∙◌, ap, subst}
+use Rattle.std.specs.Option.{UnwrapsOrElse}
 use Rattle.std.specs.Ordering.{eq_by_cmp, is_eq}
 use Rattle.std.specs.Map.{lookup}
 use Rattle.std.specs.Cmp.{eq_by_cmp_equiv}
@@ -13,25 +14,25 @@ use Rattle.spec_ledger.specs.declared.Op.TheVariants.{Get, Has, Put, Del, Add, T
 use Rattle.spec_ledger.specs.declared.Inverse.{Inverse}
 use Rattle.spec_ledger.specs.declared.Inverse.TheVariants.{Keep, Subtract, Restore}
 use Rattle.spec_ledger.specs.Cells.{Cells, lock_cmp, lock_of, counter, set_at, update, number, cells_after, cell_after, inverse_of, is_reading, map_at, counter_at, subtracted, AreCells, IsCounter, IsOfItsType, AreOfTheirTypes}
-use Rattle.spec_ledger.proofs.Types.{types-empty, types-set_at}
+use Rattle.spec_ledger.proofs.Types.{types-set_at}
 use Rattle.spec_ledger.proofs.Maps.{update_same, is_key, key_itself, get-update}
 use Rattle.spec_ledger.specs.declared.Kind.TheVariants.{Counter}
-use Rattle.spec_ledger.proofs.Ops.{AreCells-back, AreCells-empty, counters_keep}
-use Rattle.storage.specs.Counts.{Counts, opened, count_at, IsUnsettled}
+use Rattle.spec_ledger.proofs.Ops.{AreCells-back, counters_keep}
+use Rattle.storage.specs.Counts.{Counts, Store, opened, count_at, IsUnsettled}
 use Rattle.spec_ledger.proofs.Maps.{get-set_at, lock_cmp_total, lock_cmp-IsAntisymmetric}
 use Rattle.storage.specs.declared.Slot.{Slot}
-use Rattle.storage.specs.Slots.{cells_in, counts_in, cell_in, count_in, cell_back}
+use Rattle.storage.specs.Slots.{base_of, cells_in, counts_in, cell_in, count_in, cell_back}
 
-cell_of_cond : (b : Bool) (v : Slot) (o : Option Slot) → cond b v.cell (cell_in o) ≡ cell_in (cond b (Some v) o)
-cell_of_cond true v o = refl
-cell_of_cond false v o = refl
+pub cell_of_cond : (below : Option ℕ) (b : Bool) (v : Slot) (o : Option Slot) → cond b v.cell (cell_in below o) ≡ cell_in below (cond b (Some v) o)
+cell_of_cond below true v o = refl
+cell_of_cond below false v o = refl
 
-pub get-cells_in : (es : List (Lock × Slot)) (q : Lock) → finite.get (cells_in es) q ≡ cell_in (lookup (λ k. is_eq (lock_cmp q k)) es)
-get-cells_in [] q = finite.get-empty lock_cmp q
-get-cells_in (e ∷ es) q =
-    get-set_at lock_cmp_total (cells_in es) e.0 e.1.cell q
-    ∙ ap (cond (eq_by_cmp lock_cmp q e.0) e.1.cell) (get-cells_in es q)
-    ∙ cell_of_cond (eq_by_cmp lock_cmp q e.0) e.1 _
+pub get-cells_in : (base : Cells) (es : List (Lock × Slot)) (q : Lock) → finite.get (cells_in base es) q ≡ cell_in (finite.get base q) (lookup (λ k. is_eq (lock_cmp q k)) es)
+get-cells_in base [] q = refl
+get-cells_in base (e ∷ es) q =
+    get-set_at lock_cmp_total (cells_in base es) e.0 e.1.cell q
+    ∙ ap (cond (eq_by_cmp lock_cmp q e.0) e.1.cell) (get-cells_in base es q)
+    ∙ cell_of_cond (finite.get base q) (eq_by_cmp lock_cmp q e.0) e.1 _
 
 count_of_cond : (floor : ℕ) (b : Bool) (v : Slot) (o : Option Slot) → cond b (counter (v.unsettled - floor)) (counter (count_in floor o)) ≡ counter (count_in floor (cond b (Some v) o))
 count_of_cond floor true v o = refl
@@ -46,14 +47,17 @@ get-counts_in floor (e ∷ es) q =
 
 -- what a map of slots means after one is written or dropped
 module _ (m n : BTreeMap Lock Slot) (lock : Lock) (o : Option Slot) (h : (q : Lock) → tree.get lock_cmp n q ≡ cond (eq_by_cmp lock_cmp lock q) o (tree.get lock_cmp m q)) where
-  pub cells_written : cells_in n.entries ≡ set_at (cells_in m.entries) lock (cell_in o)
-  cells_written = finite.same_map lock_cmp_total lock_cmp-IsAntisymmetric _ _ (λ q.
-      get-cells_in n.entries q
-      ∙ ap cell_in (h q)
-      ∙ elim (eq_by_cmp lock_cmp lock q) as (λ b. cell_in (cond b o (tree.get lock_cmp m q)) ≡ cond b (cell_in o) (cell_in (tree.get lock_cmp m q))) [ true ↦ refl | false ↦ refl ]
-      ∙ ap (cond (eq_by_cmp lock_cmp lock q) (cell_in o)) (sym (get-cells_in m.entries q))
-      ∙ ap (λ b. cond b (cell_in o) (finite.get (cells_in m.entries) q)) ((eq_by_cmp_equiv lock_cmp_total).symm lock q)
-      ∙ sym (get-set_at lock_cmp_total (cells_in m.entries) lock (cell_in o) q))
+  pub cells_written : (base : Cells) → cells_in base n.entries ≡ set_at (cells_in base m.entries) lock (cell_in (finite.get base lock) o)
+  cells_written base = finite.same_map lock_cmp_total lock_cmp-IsAntisymmetric _ _ (λ q.
+      get-cells_in base n.entries q
+      ∙ ap (cell_in (finite.get base q)) (h q)
+      ∙ elim (eq_by_cmp lock_cmp lock q) as (λ b. eq_by_cmp lock_cmp lock q ≡ b → cell_in (finite.get base q) (cond b o (tree.get lock_cmp m q)) ≡ cond b (cell_in (finite.get base lock) o) (cell_in (finite.get base q) (tree.get lock_cmp m q))) [
+        | true ↦ λ t. ap (λ k. cell_in (finite.get base k) o) (sym (is_key lock_cmp_total lock_cmp-IsAntisymmetric lock q t))
+        | false ↦ λ _. refl
+      ] refl
+      ∙ ap (cond (eq_by_cmp lock_cmp lock q) (cell_in (finite.get base lock) o)) (sym (get-cells_in base m.entries q))
+      ∙ ap (λ b. cond b (cell_in (finite.get base lock) o) (finite.get (cells_in base m.entries) q)) ((eq_by_cmp_equiv lock_cmp_total).symm lock q)
+      ∙ sym (get-set_at lock_cmp_total (cells_in base m.entries) lock (cell_in (finite.get base lock) o) q))
 
   pub counts_written : (floor : ℕ) → counts_in floor n.entries ≡ set_at (counts_in floor m.entries) lock (counter (count_in floor o))
   counts_written floor = finite.same_map lock_cmp_total lock_cmp-IsAntisymmetric _ _ (λ q.
@@ -66,8 +70,8 @@ module _ (m n : BTreeMap Lock Slot) (lock : Lock) (o : Option Slot) (h : (q : Lo
 
 -- what a look-up finds
 module _ (m : BTreeMap Lock Slot) (lock : Lock) (o : Option Slot) (is : o ≡ tree.get lock_cmp m lock) where
-  pub cell_found : cell_in o ≡ finite.get (cells_in m.entries) lock
-  cell_found = ap cell_in is ∙ sym (get-cells_in m.entries lock)
+  pub cell_found : (base : Cells) → cell_in (finite.get base lock) o ≡ finite.get (cells_in base m.entries) lock
+  cell_found base = ap (cell_in (finite.get base lock)) is ∙ sym (get-cells_in base m.entries lock)
 
   pub count_found : (floor : ℕ) → counter (count_in floor o) ≡ finite.get (counts_in floor m.entries) lock
   count_found floor = ap (λ x. counter (count_in floor x)) is ∙ sym (get-counts_in floor m.entries lock)
@@ -82,24 +86,42 @@ same_cells m n l c e f = e ∙ ap (set_at m l) f ∙ update_same lock_cmp_total 
 pub settled : (m n : Cells) (l : Lock) → n ≡ update m l (cell_back Keep) → n ≡ m
 settled m n l e = e ∙ update_same lock_cmp_total lock_cmp-IsAntisymmetric m l (cell_back Keep) refl
 
-cell_of_slot : (o : Option Slot) (s : Slot) → s ≡ unwrap_or o (record { cell = None; unsettled = 0 }) → s.cell ≡ cell_in o
-cell_of_slot None s e = ap (λ (x : Slot). x.cell) e
-cell_of_slot (Some v) s e = ap (λ (x : Slot). x.cell) e
+-- a slot that is there, or else a new one with what is below it
+abbrev pub IsThere : Option ℕ → Option Slot → Slot → Type 0
+IsThere below None s = (s.cell ≡ below) × (s.unsettled ≡ 0)
+IsThere below (Some v) s = s ≡ v
+
+pub there_from : {made : Slot → Type 0} (below : Option ℕ) (o : Option Slot) (s : Slot) → UnwrapsOrElse o made s → ((v : Slot) → made v → (v.cell ≡ below) × (v.unsettled ≡ 0)) → IsThere below o s
+there_from below None s h new = new s h
+there_from below (Some v) s h new = h
+
+cell_of_slot : (below : Option ℕ) (o : Option Slot) (s : Slot) → IsThere below o s → s.cell ≡ cell_in below o
+cell_of_slot below None s e = e.0
+cell_of_slot below (Some v) s e = ap (λ (x : Slot). x.cell) e
 
 pub nothing_above : (floor : ℕ) → 0 - floor ≡ 0
 nothing_above floor = omega arith
 
-count_of_slot : (floor : ℕ) (o : Option Slot) (s : Slot) → s ≡ unwrap_or o (record { cell = None; unsettled = 0 }) → s.unsettled - floor ≡ count_in floor o
-count_of_slot floor None s e = ap (λ (x : Slot). x.unsettled - floor) e ∙ nothing_above floor
-count_of_slot floor (Some v) s e = ap (λ (x : Slot). x.unsettled - floor) e
+count_of_slot : (below : Option ℕ) (floor : ℕ) (o : Option Slot) (s : Slot) → IsThere below o s → s.unsettled - floor ≡ count_in floor o
+count_of_slot below floor None s e = ap (λ n. n - floor) e.1 ∙ nothing_above floor
+count_of_slot below floor (Some v) s e = ap (λ (x : Slot). x.unsettled - floor) e
 
--- a slot that is there, or an empty one where there is none
-module _ (m : BTreeMap Lock Slot) (lock : Lock) (o : Option Slot) (s : Slot) (was : s ≡ unwrap_or o (record { cell = None; unsettled = 0 })) (is : o ≡ tree.get lock_cmp m lock) where
-  pub slot_cell : s.cell ≡ finite.get (cells_in m.entries) lock
-  slot_cell = cell_of_slot o s was ∙ cell_found m lock o is
+-- the count of a slot that is there, or of an empty one
+count_of_empty : (floor : ℕ) (o : Option Slot) (s : Slot) → s ≡ unwrap_or o (record { cell = None; unsettled = 0 }) → s.unsettled - floor ≡ count_in floor o
+count_of_empty floor None s e = ap (λ (x : Slot). x.unsettled - floor) e ∙ nothing_above floor
+count_of_empty floor (Some v) s e = ap (λ (x : Slot). x.unsettled - floor) e
+
+pub count_of_new : (m : BTreeMap Lock Slot) (lock : Lock) (o : Option Slot) (s : Slot) → s ≡ unwrap_or o (record { cell = None; unsettled = 0 }) → o ≡ tree.get lock_cmp m lock
+    → (floor : ℕ) → counter (s.unsettled - floor) ≡ finite.get (counts_in floor m.entries) lock
+count_of_new m lock o s was is floor = ap counter (count_of_empty floor o s was) ∙ count_found m lock o is floor
+
+-- a slot that is there, or a new one where there is none
+module _ (base : Cells) (m : BTreeMap Lock Slot) (lock : Lock) (o : Option Slot) (s : Slot) (was : IsThere (finite.get base lock) o s) (is : o ≡ tree.get lock_cmp m lock) where
+  pub slot_cell : s.cell ≡ finite.get (cells_in base m.entries) lock
+  slot_cell = cell_of_slot (finite.get base lock) o s was ∙ cell_found m lock o is base
 
   pub slot_count : (floor : ℕ) → counter (s.unsettled - floor) ≡ finite.get (counts_in floor m.entries) lock
-  slot_count floor = ap counter (count_of_slot floor o s was) ∙ count_found m lock o is floor
+  slot_count floor = ap counter (count_of_slot (finite.get base lock) floor o s was) ∙ count_found m lock o is floor
 
   pub slot_number : (floor : ℕ) → s.unsettled - floor ≡ count_at (counts_in floor m.entries) lock
   slot_number floor = sym (number-counter (s.unsettled - floor)) ∙ ap number (slot_count floor)
@@ -112,22 +134,30 @@ module _ (m : BTreeMap Lock Slot) (lock : Lock) (o : Option Slot) (s : Slot) (wa
 
   -- after another is written in its place
   module _ (n : BTreeMap Lock Slot) (next : Slot) (h : (q : Lock) → tree.get lock_cmp n q ≡ cond (eq_by_cmp lock_cmp lock q) (Some next) (tree.get lock_cmp m q)) where
-    pub cells_changed : (f : Option ℕ → Option ℕ) → next.cell ≡ f s.cell → cells_in n.entries ≡ update (cells_in m.entries) lock f
-    cells_changed f e = cells_written m n lock (Some next) h ∙ ap (λ c. set_at (cells_in m.entries) lock c) (e ∙ ap f slot_cell)
+    pub cells_changed : (f : Option ℕ → Option ℕ) → next.cell ≡ f s.cell → cells_in base n.entries ≡ update (cells_in base m.entries) lock f
+    cells_changed f e = cells_written m n lock (Some next) h base ∙ ap (λ c. set_at (cells_in base m.entries) lock c) (e ∙ ap f slot_cell)
 
     pub counts_changed : (floor : ℕ) (f : ℕ → ℕ) → next.unsettled - floor ≡ f (s.unsettled - floor) → counts_in floor n.entries ≡ update (counts_in floor m.entries) lock (λ c. counter (f (number c)))
     counts_changed floor f e = counts_written m n lock (Some next) h floor ∙ ap (λ c. set_at (counts_in floor m.entries) lock (counter c)) (e ∙ ap f (slot_number floor))
 
   -- after the same is written
   module _ (n : BTreeMap Lock Slot) (h : (q : Lock) → tree.get lock_cmp n q ≡ cond (eq_by_cmp lock_cmp lock q) (Some s) (tree.get lock_cmp m q)) where
-    pub cells_kept : cells_in n.entries ≡ cells_in m.entries
-    cells_kept = same_cells (cells_in m.entries) (cells_in n.entries) lock s.cell (cells_written m n lock (Some s) h) slot_cell
+    pub cells_kept : cells_in base n.entries ≡ cells_in base m.entries
+    cells_kept = same_cells (cells_in base m.entries) (cells_in base n.entries) lock s.cell (cells_written m n lock (Some s) h base) slot_cell
 
     pub counts_kept : (floor : ℕ) → counts_in floor n.entries ≡ counts_in floor m.entries
     counts_kept floor = same_cells (counts_in floor m.entries) (counts_in floor n.entries) lock (counter (s.unsettled - floor)) (counts_written m n lock (Some s) h floor) (slot_count floor)
 
-pub AreCells-none : (es : List (Lock × Slot)) → es ≡ [] → AreCells (cells_in es)
-AreCells-none es e = subst (λ x. AreCells (cells_in x)) (sym e) AreCells-empty
+-- ---- a base without slots
+
+pub without_slots : (base : Cells) (es : List (Lock × Slot)) → es ≡ [] → cells_in base es ≡ base
+without_slots base es e = ap (cells_in base) e
+
+pub cells_of_entries : (m : Cells) (base : List (Lock × ℕ)) → base ≡ finite.entries m → base_of base ≡ m
+cells_of_entries m base e = ap base_of e ∙ finite.same_entries_map _ m (finite.entries-from_sorted lock_cmp (finite.entries m) (finite.entries_sorted m))
+
+pub no_cells : base_of [] ≡ finite.empty
+no_cells = finite.same_map lock_cmp_total lock_cmp-IsAntisymmetric _ _ (λ q. finite.get-from_sorted lock_cmp [] q tt ∙ sym (finite.get-empty lock_cmp q))
 
 pub read_cells : (op : Op) (m : Cells) (b : Bool) → b ≡ is_reading op → b ≡ true → m ≡ cells_after op m
 read_cells (Get p) m b e f = sym (update_same lock_cmp_total lock_cmp-IsAntisymmetric m (map_at p) (λ c. c) refl)
@@ -163,6 +193,10 @@ AreCells-restored m n p l c e f are = subst (λ x. AreCells x) (sym (e ∙ ap (�
 counter_not_zero : (l : Lock) (v : ℕ) (p : CellKey) → (l.kind ≡ Counter → 0 < v) → v < 2 ^ 64 → counter_at p ≡ l → IsCounter (Some v)
 counter_not_zero l v p condition fits e = record { fits = fits; not_zero = λ z. let h : 0 < v = condition (sym (ap (λ (x : Lock). x.kind) e)) in absurd (omega (arith, h, ap number z)) }
 
+above_zero : (v : ℕ) → Some v ≢ Some 0 → 0 < v
+above_zero zero h = absurd (h refl)
+above_zero (suc n) h = omega arith
+
 pub AreCells-inserted : (m n : Cells) (l : Lock) (v : ℕ) → n ≡ set_at m l (Some v) → (l.kind ≡ Counter → 0 < v) → v < 2 ^ 64 → AreCells m → AreCells n
 AreCells-inserted m n l v e condition fits are = record {
   counters = λ p. subst (λ (x : Option ℕ). IsCounter x) (sym (ap (λ x. finite.get x (counter_at p)) e ∙ get-set_at lock_cmp_total m l (Some v) (counter_at p)))
@@ -174,9 +208,6 @@ AreCells-inserted m n l v e condition fits are = record {
 
 pub types_written : (m n : Cells) (l : Lock) (c : Option ℕ) → n ≡ set_at m l c → ((v : ℕ) → c ≡ Some v → IsOfItsType l v) → AreOfTheirTypes m → AreOfTheirTypes n
 types_written m n l c e here are = subst (λ x. AreOfTheirTypes x) (sym e) (types-set_at m l c are here)
-
-pub types-none : (es : List (Lock × Slot)) → es ≡ [] → AreOfTheirTypes (cells_in es)
-types-none es e = subst (λ x. AreOfTheirTypes (cells_in x)) (sym e) types-empty
 
 count_more : (m : Counts) (l : Lock) → 0 < count_at (update m l (λ n. counter (number n + 1))) l
 count_more m l =
@@ -202,18 +233,42 @@ IsUnsettled-read (Put p v) c i b m e f g = cc
 IsUnsettled-read (Del p) c i b m e f g = cc
 IsUnsettled-read (Add p v) c i b m e f g = cc
 
--- ---- a cell that is emptied
+pub same_store : (c d : Cells) (u v : Counts) → c ≡ d → u ≡ v → ◌≡◌ {A = Store} (record { cells = c; unsettled = u }) (record { cells = d; unsettled = v })
+same_store c d u v p q = λ i. record { cells = p i; unsettled = q i }
 
-pub AreCells-emptied : (m n : Cells) (k : Lock) → n ≡ set_at m k None → AreCells m → AreCells n
-AreCells-emptied m n k e are = subst AreCells (sym e) (counters_keep m k (λ _. None) (λ _ _. record { fits = omega arith; not_zero = λ none. cc }) are)
+pub on_any_err : {T E P : Type 0} (r : Result T E) → P → OnErr r P
+on_any_err (Ok x) p = tt
+on_any_err (Err e) p = p
 
-pub types_emptied : (m n : Cells) (k : Lock) → n ≡ set_at m k None → AreOfTheirTypes m → AreOfTheirTypes n
-types_emptied m n k e types = subst AreOfTheirTypes (sym e) (types-set_at m k None types (λ v no. cc))
+-- ---- a cell that is set
+
+pub fits_set : (m n : Cells) (k : Lock) (c : Option ℕ) → n ≡ set_at m k c → AreOfTheirTypes n → (v : ℕ) → c ≡ Some v → v < 2 ^ 64
+fits_set m n k c e types v is =
+    (types k v (ap (λ x. finite.get x k) e ∙ get-set_at lock_cmp_total m k c k ∙ ap (λ b. cond b c (finite.get m k)) (key_itself lock_cmp_total lock_cmp-IsAntisymmetric k) ∙ is)).number
+
+pub AreCells-set : (m n : Cells) (k : Lock) (c : Option ℕ) → n ≡ set_at m k c → (k.kind ≡ Counter → c ≢ Some 0) → ((v : ℕ) → c ≡ Some v → v < 2 ^ 64) → AreCells m → AreCells n
+AreCells-set m n k None e condition fits are = subst AreCells (sym e) (counters_keep m k (λ _. None) (λ _ _. record { fits = omega arith; not_zero = λ none. cc }) are)
+AreCells-set m n k (Some v) e condition fits are = AreCells-inserted m n k v e (λ at. above_zero v (condition at)) (fits v refl) are
 
 pub none_emptied : (m n : Counts) (k : Lock) → n ≡ set_at m k None → m ≡ finite.empty → n ≡ finite.empty
 none_emptied m n k e none =
     e ∙ ap (λ x. set_at x k None) none
     ∙ update_same lock_cmp_total lock_cmp-IsAntisymmetric finite.empty k (λ _. None) (sym (finite.get-empty lock_cmp k))
+
+-- at most one slot more where there is room for it
+at_most_one : (b : Bool) → (if b then 0 else 1) ≤ 1
+at_most_one true = omega arith
+at_most_one false = omega arith
+
+pub one_more : (base old new : ℕ) (b : Bool) → new ≡ old + (if b then 0 else 1) → base + old + 1 < 2 ^ 63 → base + new < 2 ^ 63
+one_more base old new b size room = let one = at_most_one b in omega (arith, size, room, one)
+
+pub few_alone : (base : List (Lock × ℕ)) (es : List (Lock × Slot)) → es ≡ [] → length base < 2 ^ 63 → length base + length es < 2 ^ 63
+few_alone base es none few = let size : length es ≡ 0 = ap length none in omega (arith, size, few)
+
+-- no more slots than there were
+pub fewer_yet : (base old new : ℕ) → new ≤ old → base + old < 2 ^ 63 → base + new < 2 ^ 63
+fewer_yet base old new less few = omega (arith, less, few)
 
 -- ---- the top
 

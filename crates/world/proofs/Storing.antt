@@ -2,7 +2,7 @@
 use Rattle.std.proofs.Common.{◌≡◌, ◌≢◌, ℕ, ◌<◌, ◌^◌, Bool, true, false, cond, ◌&&◌, T, List, [], ◌∷◌, ◌++◌, length, Option, Some, None, Ordering, Less, Equal, Greater, refl, sym, ap, subst, ◌∙◌, arith}
 use Rattle.std.specs.List.{filter, AllByRecursion}
 use Rattle.std.specs.Ordering.{is_lt, is_eq, eq_by_cmp}
-use Rattle.std.specs.FinMap.{entries, empty, insert, get, find, is_sorted, get-empty, get-insert, get-entries, entries_sorted}
+use Rattle.std.specs.FinMap.{entries, from_entries, get, find, is_sorted, get-from_entries, get-entries, entries_sorted}
 use Rattle.std.specs.FinMap.Entries.{below_all, is_sorted-where_key, find-where_key, same_entries}
 use Rattle.spec_ledger.specs.declared.Kind.{Kind}
 use Rattle.spec_ledger.specs.declared.Kind.TheVariants.{Map, Counter}
@@ -12,7 +12,8 @@ use Rattle.spec_block.specs.Bytes.{is_map, is_counter, IsCell}
 use Rattle.spec_block.proofs.Locks.{lock_is}
 use Rattle.spec_block.proofs.OneWorld.{lock_cmp_total, lock_cmp-IsAntisymmetric, IsCellOf, kept, fewer, only_map, only_counter}
 use Rattle.records.specs.Exact.{Follow}
-use Rattle.world.specs.Cells.{Cell, IsNextCell, AreCellsOf, AreLists, AreNonZero, onto, IsStoreOf}
+use Rattle.world.specs.Cells.{Cell, IsNextCell, AreCellsOf, AreLists, IsStoreOf}
+use Rattle.storage.specs.Slots.{AreHeld}
 
 -- ---- a list whose locks rise
 
@@ -89,10 +90,9 @@ chosen : (b : Bool) (x : ℕ) (o other : Option ℕ) → cond b (Some x) (or_els
 chosen true x o other = refl
 chosen false x o other = refl
 
-get_onto : (es : List Cell) (m : Cells) (q : Lock) → get (onto es m) q ≡ or_else (find lock_cmp q es) (get m q)
-get_onto [] m q = refl
-get_onto (c ∷ es) m q =
-    get-insert lock_cmp_total (onto es m) c.0 c.1 q ∙ (ap (cond (eq_by_cmp lock_cmp q c.0) (Some c.1)) (get_onto es m q) ∙ chosen (eq_by_cmp lock_cmp q c.0) c.1 (find lock_cmp q es) (get m q))
+find_both : (es fs : List Cell) (q : Lock) → find lock_cmp q (es ++ fs) ≡ or_else (find lock_cmp q es) (find lock_cmp q fs)
+find_both [] fs q = refl
+find_both (c ∷ es) fs q = ap (cond (eq_by_cmp lock_cmp q c.0) (Some c.1)) (find_both es fs q) ∙ chosen (eq_by_cmp lock_cmp q c.0) c.1 (find lock_cmp q es) (find lock_cmp q fs)
 
 not_found : (kind : Kind) (before : Option Cell) (q : Lock) (es : List Cell) → Follow (IsNextCell kind) before es → q.kind ≢ kind → find lock_cmp q es ≡ None
 not_found kind before q [] follow other = refl
@@ -109,12 +109,11 @@ list_is is m list sorted same =
     (λ q. find-where_key lock_cmp (λ (l : Lock). is l.kind) q (λ x e. ap (λ (l : Lock). is l.kind) (sym (lock_is q x (ap is_eq e)))) (entries m) ∙ (ap (λ (o : Option ℕ). cond (is q.kind) o None) (sym (get-entries m q)) ∙ sym (same q)))
 
 store : List Cell → List Cell → Cells
-store maps counters = onto maps (onto counters empty)
+store maps counters = from_entries (maps ++ counters)
 
 got : (maps counters : List Cell) (q : Lock) → get (store maps counters) q ≡ or_else (find lock_cmp q maps) (find lock_cmp q counters)
 unfolding store
-got maps counters q =
-    get_onto maps (onto counters empty) q ∙ ap (or_else (find lock_cmp q maps)) (get_onto counters empty q ∙ (ap (or_else (find lock_cmp q counters)) (get-empty lock_cmp q) ∙ or_none (find lock_cmp q counters)))
+got maps counters q = get-from_entries lock_cmp_total (maps ++ counters) q ∙ find_both maps counters q
 
 maps_at : (maps counters : List Cell) → AreLists (maps, counters) → (q : Lock) (k : Kind) → q.kind ≡ k → find lock_cmp q maps ≡ cond (is_map q.kind) (get (store maps counters) q) None
 maps_at maps counters are q Map e =
@@ -150,7 +149,7 @@ of_all : (es : List Cell) → AllByRecursion IsCell (these is_map es) → AllByR
 of_all [] maps counters = tt
 of_all (c ∷ es) maps counters = by_kind c es c.0.kind refl (of_all es) maps counters
 
-pub is_store : (maps counters : List Cell) (m : Cells) → AreLists (maps, counters) → m ≡ onto maps (onto counters empty) → IsStoreOf m (maps, counters)
+pub is_store : (maps counters : List Cell) (m : Cells) → AreLists (maps, counters) → m ≡ from_entries (maps ++ counters) → IsStoreOf m (maps, counters)
 unfolding store
 is_store maps counters m are e =
     let s = store maps counters in
@@ -167,15 +166,10 @@ is_store maps counters m are e =
 positive : (n : ℕ) → n ≢ 0 → 0 < n
 positive n ne = omega (arith, ne)
 
-pub not_zero : (kind : Kind) (before : Option Cell) (es : List Cell) → Follow (IsNextCell kind) before es → AreNonZero es
-not_zero kind before [] follow = tt
-not_zero kind before (c ∷ es) follow = ((λ k. positive c.1 (follow.0.cell.not_zero k)), not_zero kind (Some c) es follow.1)
-
--- a cell more at the end is one put first
-pub onto_last : (es : List Cell) (c : Cell) (m : Cells) → onto (es ++ c ∷ []) m ≡ onto es (insert m c.0 c.1)
-onto_last [] c m = refl
-onto_last (e ∷ es) c m = ap (λ (n : Cells). insert n e.0 e.1) (onto_last es c m)
-
-pub non_zero_last : (es : List Cell) (c : Cell) → AreNonZero (es ++ c ∷ []) → AreNonZero es × (c.0.kind ≡ Counter → 0 < c.1)
-non_zero_last [] c h = (tt, h.0)
-non_zero_last (e ∷ es) c h = let r = non_zero_last es c h.1 in ((h.0, r.0), r.1)
+pub are_held : (kind : Kind) (before : Option Cell) (es : List Cell) → Follow (IsNextCell kind) before es → AreHeld es
+are_held kind before [] follow = tt
+are_held kind before (c ∷ es) follow = (
+  record { contract = follow.0.cell.contract; key = follow.0.cell.key; number = follow.0.cell.number },
+  (λ k. positive c.1 (follow.0.cell.not_zero k)),
+  are_held kind (Some c) es follow.1,
+)

@@ -2,7 +2,7 @@
 use Rattle.std.specs.Prelude.{◌≡◌, ℕ, ◌<◌, ◌^◌, Bool, true, false, List, [], ◌∷◌, ◌++◌, length, Option, Some, None, Ok, Err, ◌==◌, nat_lt, if◌then◌else◌}
 use Rattle.std.specs.Int.{w32, w64}
 use Rattle.std.specs.List.{flat_map, filter, AllByRecursion}
-use Rattle.std.specs.FinMap.{entries, insert}
+use Rattle.std.specs.FinMap.{entries}
 use Rattle.std.specs.Ordering.{is_lt}
 use Rattle.spec_ledger.specs.declared.Kind.{Kind}
 use Rattle.spec_ledger.specs.declared.Kind.TheVariants.{Map, Counter}
@@ -90,16 +90,6 @@ abbrev pub AreLists : List Cell × List Cell → Type 0
 AreLists lists = AreCellsOf Map lists.0 × AreCellsOf Counter lists.1
 
 -- ---- a store
-
--- no counter is at 0
-abbrev pub AreNonZero : List Cell → Type 0
-AreNonZero [] = Unit {0}
-AreNonZero (c ∷ cs) = (c.0.kind ≡ Counter → 0 < c.1) × AreNonZero cs
-
--- the store with these cells, the last put first
-abbrev pub onto : List Cell → Cells → Cells
-onto [] cells = cells
-onto (c ∷ cs) cells = insert (onto cs cells) c.0 c.1
 
 -- the cells of a store by their kinds
 pub record IsStoreOf (cells : Cells) (lists : List Cell × List Cell) : Type 0 where

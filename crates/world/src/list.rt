@@ -26,7 +26,7 @@ fn items_of<A: Allocator + Copy>(
 ) -> Result<(Vec<(Lock, u64), A>, &[u8]), Fault>
     ensures { Gives (λ x. (x.0.items, x.1.now)) result (items_at (cell_at kind) count None bytes.now) }
 {
-    let mut cells = Vec::new(alloc);
+    let mut cells = Vec::with_capacity(alloc, count as usize)?;
     let mut before = None;
     let mut rest = bytes;
     for _ in 0..count {

@@ -35,3 +35,9 @@ returns-clause-block g c =
     let made = c.in_ok-digests.ensures.positions ∙ (λ k. positions c.args.order.now (results_of (c.deref.ensures.value k) (c.deref-2.ensures.value k))) in
     let after = c.in_ok-digests.ensures.after ∙ ap (λ (w : World). sha256 (world_bytes w)) next in
     c.in-Some.ensures.is ∙ (λ k. record { version = c.args.version; before = c.in_ok-digests.ensures.before k; calls = c.in_ok-digests.ensures.calls k; positions = made k; fuel = c.requires.fuel k; after = after k })
+
+pub returns-clause-world : goal.returns-clause-world
+returns-clause-world g c =
+    let next : world_view c.new-next.result ≡ world_after (world_view c.args.world.now) c.args.core.cells.cells =
+    λ k. record { contracts = (c.new-next.ensures.contracts ∙ (c.in_ok-copy_contracts.ensures ∙ c.contracts.ensures.contracts)) k; cells = c.new-next.ensures.cells k } in
+    c.with_digest.ensures ∙ next

@@ -1,4 +1,5 @@
-use Rattle.std.proofs.Common.{length, subst}
+use Rattle.std.proofs.Common.{length, refl, subst, sym}
+use Rattle.std.proofs.lemmas.Result.{err_from_is_err_and}
 use Rattle.spec_ledger.specs.Shards.{shard_of}
 use Rattle.sharding.specs.Parts.{AreParts}
 use Rattle.sharding.proofs.Together.{has_home, own_cells, same_cells, defined_cells, cells_settled}
@@ -27,3 +28,18 @@ pub returns-clause-differs : goal.returns-clause-differs
 returns-clause-differs g c =
     let are = subst (λ es. AreParts c.args.opening.cells es c.args.parts.now) c.deref.ensures.value (c.are_parts.ensures.parts.0 c.if-not-are_parts.false) in
     (λ e. absurd (cc e), λ isnt. absurd (isnt are))
+
+pub returns-then-not-are_parts-clause-differs : goal.returns-then-not-are_parts-clause-differs
+returns-then-not-are_parts-clause-differs g c = (
+  λ _ are.
+      let yes = c.are_parts.ensures.parts.1 (subst (λ es. AreParts c.args.opening.cells es c.args.parts.now) (sym c.deref.ensures.value) are) in
+      let no = c.if-not-are_parts.true in
+      absurd (cc (yes, no)),
+  λ _. refl,
+)
+
+pub returns-in_err-cells-clause-differs : goal.returns-in_err-cells-clause-differs
+returns-in_err-cells-clause-differs g c =
+    let are = subst (λ es. AreParts c.args.opening.cells es c.args.parts.now) c.deref.ensures.value (c.are_parts.ensures.parts.0 c.if-not-are_parts.false) in
+    let p = err_from_is_err_and c.from_residual.result c.from_residual.ensures.1 in
+    (λ e. absurd (cc (e, p.1, p.2)), λ isnt. absurd (isnt are))

@@ -1,7 +1,7 @@
 use Rattle.std.proofs.Common.{subst, sym}
 use Rattle.spec_ledger.specs.Cells.{AreCells, AreOfTheirTypes}
 use Rattle.spec_ledger.proofs.Ops.{AreCells-after}
-use Rattle.storage.specs.Slots.{cells_in, counts_in}
+use Rattle.storage.specs.Slots.{base_of, cells_in, counts_in}
 use Rattle.storage.proofs.Slots.{read_cells, applied, opened_by, IsUnsettled-by, IsUnsettled-read}
 use Rattle.storage.proofs.Cells.apply.Goals as goal
 
@@ -16,17 +16,19 @@ invariant_of-self g c = record {
   are = subst AreCells (sym c.in_err-cell.ensures.cells_at_err) c.self.invariant.are;
   types = subst AreOfTheirTypes (sym c.in_err-cell.ensures.cells_at_err) c.self.invariant.types;
   below = c.in_err-cell.ensures.below_at_err;
+  few = c.in_err-cell.ensures.few c.self.invariant.few;
 }
 
 pub invariant_of-self-2 : goal.invariant_of-self-2
 invariant_of-self-2 g c =
     record {
       below = c.in_ok-cell.ensures.below;
+      few = c.in_ok-cell.ensures.few c.self.invariant.few;
       types = c.in_ok-cell.ensures.types c.self.invariant.types;
       are =
           subst (λ m. AreCells m)
-          (sym (applied c.args.op (cells_in c.self.inside.slots.entries) (cells_in c.open_slot.new.slots.entries) c.lock-lock.result c.in_ok-cell.ensures.cells c.lock-lock.ensures))
-          (AreCells-after c.args.op (cells_in c.self.inside.slots.entries) c.self.invariant.are);
+          (sym (applied c.args.op (cells_in (base_of c.self.inside.base) c.self.inside.slots.entries) (cells_in (base_of c.self.inside.base) c.open_slot.new.slots.entries) c.lock-lock.result c.in_ok-cell.ensures.cells c.lock-lock.ensures))
+          (AreCells-after c.args.op (cells_in (base_of c.self.inside.base) c.self.inside.slots.entries) c.self.invariant.are);
     }
 
 pub returns-clause-unsettled : goal.returns-clause-unsettled

@@ -1,32 +1,18 @@
-use Rattle.std.proofs.Common.{◌≡◌, rules, tests, ◌∙◌, sym, subst, map}
-use Rattle.std.proofs.lemmas.Iterator.{YieldsList-from_map}
-use Rattle.std.proofs.lemmas.Iterator.Consumers.{YieldsList-from_first, YieldsList-at}
-use Rattle.std.proofs.lemmas.Iterator.Adapters.{fact_from_collect}
-use Rattle.std.proofs.lemmas.Result.{IfOk-at_ok}
-use Rattle.std.specs.BTreeMap.{IsFromIterResult}
-use Rattle.std.specs.FinMap.{entries}
+use Rattle.std.proofs.Common.{◌∙◌, subst, sym}
+use Rattle.std.specs.Prelude.{T}
+use Rattle.std.specs.FinMap.{entries_sorted, is_sorted}
 use Rattle.spec_ledger.specs.Cells.{lock_cmp, AreCells, AreOfTheirTypes}
-use Rattle.storage.specs.Slots.{cells_in}
-use Rattle.storage.proofs.Copied.{with_settled, cells_copied, counts_copied}
+use Rattle.storage.proofs.Slots.{cells_of_entries}
 use Rattle.storage.proofs.Cells.copy.Goals as goal
 
+pub from_sorted-requires : goal.from_sorted-requires
+from_sorted-requires g c = subst (λ cells. T (is_sorted lock_cmp cells)) (sym c.in_ok-cells.ensures) (entries_sorted c.args.self.now.cells)
+
+pub of_base-requires-clause-cells : goal.of_base-requires-clause-cells
+of_base-requires-clause-cells g c = subst AreCells (sym (cells_of_entries c.args.self.now.cells c.from_sorted.result (c.from_sorted.ensures ∙ c.in_ok-cells.ensures))) c.use_invariant.ensures.cells
+
+pub of_base-requires-clause-types : goal.of_base-requires-clause-types
+of_base-requires-clause-types g c = subst AreOfTheirTypes (sym (cells_of_entries c.args.self.now.cells c.from_sorted.result (c.from_sorted.ensures ∙ c.in_ok-cells.ensures))) c.use_invariant.ensures.types
+
 pub returns-clause-cells : goal.returns-clause-cells
-returns-clause-cells g c =
-    let made = fact_from_collect (IsFromIterResult lock_cmp) c.collect.result c.collect.ensures.ran
-    (YieldsList-from_map _ with_settled (YieldsList-at c.map.ensures.source (YieldsList-from_first (λ e. e) (λ e. e) (entries c.args.self.now.cells) c.entries.ensures.cells)) c.map.ensures.closure (λ x r q k. search (rules, tests))) in
-    cells_copied c.args.self.now.cells c.in_ok-slots.slots (IfOk-at_ok (λ s. IsFromIterResult lock_cmp (map with_settled (entries c.args.self.now.cells)) s) c.in_ok-slots.was made)
-
-pub returns-clause-unsettled : goal.returns-clause-unsettled
-returns-clause-unsettled g c =
-    let made = fact_from_collect (IsFromIterResult lock_cmp) c.collect.result c.collect.ensures.ran
-    (YieldsList-from_map _ with_settled (YieldsList-at c.map.ensures.source (YieldsList-from_first (λ e. e) (λ e. e) (entries c.args.self.now.cells) c.entries.ensures.cells)) c.map.ensures.closure (λ x r q k. search (rules, tests))) in
-    counts_copied c.args.self.now.cells c.in_ok-slots.slots (IfOk-at_ok (λ s. IsFromIterResult lock_cmp (map with_settled (entries c.args.self.now.cells)) s) c.in_ok-slots.was made) 0
-
-pub invariant_of-result : goal.invariant_of-result
-invariant_of-result g c =
-    let cells : cells_in c.in_ok-slots.slots.entries ≡ c.args.self.now.cells = returns-clause-cells g c in
-    record {
-      are = subst AreCells (sym cells) c.use_invariant.ensures.cells;
-      types = subst AreOfTheirTypes (sym cells) c.use_invariant.ensures.types;
-      below = returns-clause-unsettled g c;
-    }
+returns-clause-cells g c = c.of_base.ensures.cells ∙ cells_of_entries c.args.self.now.cells c.from_sorted.result (c.from_sorted.ensures ∙ c.in_ok-cells.ensures)

@@ -7,7 +7,7 @@ use Rattle.world.proofs.list.items_of.Goals as goal
 
 pub returns-in_err-cell : goal.returns-in_err-cell
 returns-in_err-cell g c =
-    let p = err_from_is_err_and c.from_residual.result c.from_residual.ensures.1 in
+    let p = err_from_is_err_and c.from_residual-in_err-cell.result c.from_residual-in_err-cell.ensures.1 in
     rw (p.1, p.2) (ends (cell_at c.args.kind) c.in_err-cell.field-0.0 c.loop.cells.items c.args.count c.loop.counter c.loop.before c.loop.rest.now (items_at (cell_at c.args.kind) c.args.count None c.args.bytes.now) c.loop-test.true c.in_err-cell.ensures c.loop.invariant)
 
 pub loop-preserved : goal.loop-preserved

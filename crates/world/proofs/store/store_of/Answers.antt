@@ -1,16 +1,16 @@
-use Rattle.std.proofs.Common.{None, ap, ◌∙◌}
+use Rattle.std.proofs.Common.{None}
 use Rattle.spec_ledger.specs.declared.Kind.TheVariants.{Map, Counter}
-use Rattle.world.specs.Cells.{onto}
-use Rattle.world.proofs.Storing.{not_zero, is_store}
+use Rattle.world.proofs.Storing.{rising_is_sorted, are_held, is_store}
 use Rattle.world.proofs.store.store_of.Goals as goal
 
-pub put_cells-requires : goal.put_cells-requires
-put_cells-requires g c = not_zero Counter None c.args.lists.counters.items c.requires.1.each
+pub from_sorted-requires-clause-over : goal.from_sorted-requires-clause-over
+from_sorted-requires-clause-over g c = rising_is_sorted Map None c.args.lists.maps.items c.requires.0.each
 
-pub put_cells-requires-2 : goal.put_cells-requires-2
-put_cells-requires-2 g c = not_zero Map None c.args.lists.maps.items c.requires.0.each
+pub from_sorted-requires-clause-base : goal.from_sorted-requires-clause-base
+from_sorted-requires-clause-base g c = rising_is_sorted Counter None c.args.lists.counters.items c.requires.1.each
+
+pub from_sorted-requires-clause-held : goal.from_sorted-requires-clause-held
+from_sorted-requires-clause-held g c = (are_held Map None c.args.lists.maps.items c.requires.0.each, are_held Counter None c.args.lists.counters.items c.requires.1.each)
 
 pub returns-clause-store : goal.returns-clause-store
-returns-clause-store g c =
-    is_store c.args.lists.maps.items c.args.lists.counters.items c.put_cells-2.new.store.cells c.requires
-    (c.in_ok-put_cells-2.ensures ∙ ap (onto c.args.lists.maps.items) (c.in_ok-put_cells.ensures ∙ ap (onto c.args.lists.counters.items) c.new-store.ensures.cells))
+returns-clause-store g c = is_store c.args.lists.maps.items c.args.lists.counters.items c.in_ok-store.store.cells c.requires c.in_ok-store.ensures.cells
