@@ -12,6 +12,7 @@ use Rattle.lock_profile.proofs.Held.TheSendSync as held
 use Rattle.spec_execution.proofs.footprints.Access.TheSendSync as access
 use Rattle.spec_ledger.proofs.Version.TheSendSync as version
 use Rattle.serial.proofs.Crossing.{crosses, vec_send, contract_sync, contracts_send, cells_sync}
+use Rattle.news.proofs.Crossing.{news_sync}
 use Rattle.lanes.specs.declared.queue_rule.ItemFact as fact
 use Rattle.lanes.specs.contracts.typed_queue.TypedQueue as line_row
 use Rattle.lanes.specs.contracts.pass.QueuePass as pass_row
@@ -55,7 +56,12 @@ module _ (B : RattleType) (g : Ghosts B.Denot) (send : IsSend B) (sync : IsSync 
 
   -- a post may go to its thread
   pub post_send : (a b : NamedLft) → IsSend (post_row.the_row a b B g)
-  post_send a b = declared_send (post_row.the_type a b B g) (search (crosses, line_sync) depth 60 fits 100000, (pass_send b, tt))
+  post_send a b =
+      let news = news_sync B g send sync frees in
+      declared_send (post_row.the_type a b B g) (
+        search (crosses, line_sync) depth 60 fits 100000,
+        (pass_send b, (search (crosses, news) depth 60 fits 100000, (search crosses depth 60 fits 100000, tt))),
+      )
 
   -- threads may share an order, where they may share the pace
   pub job_sync : (a b : NamedLft) (P : RattleType) → IsSync P → IsSync (job_row.the_row a b B P g)

@@ -1,10 +1,11 @@
 //! Batches of calls that are run ahead of their turn.
 
-ghost use Rattle.std.specs.Prelude.{◌<◌, IfOk, OnOk};
+ghost use Rattle.std.specs.Prelude.{◌<◌, IfOk, OnOk, length};
 ghost use Rattle.in_order.specs.Progress.{IsKnown};
 ghost use Rattle.in_order.specs.Shares.{AreSpeculativeRunsOf};
 
 use crate::line::Batch;
+use crate::post::QueueEnd;
 use crate::speculative_run::{SpeculativeRuns, open_speculative_runs, run_speculatively};
 use crate::straight::must_stop_before;
 use crate::{InOrder, NO_MORE};
@@ -40,9 +41,31 @@ pub(crate) struct BatchRun<'a, A: Allocator> {
     pub(crate) stops: bool,
 }
 
+/// Runs a call ahead of its turn: over the cells before the first, or, where threads are told what was done, over the cells as this one knows them.
+fn run_call<A: Allocator + Copy, P: Pace>(
+    job: &InOrder<'_, '_, A, P>,
+    post: &QueueEnd<'_, '_, A>,
+    call: u32,
+    share: &mut SpeculativeRuns<'_, A>,
+) -> Result<(), NoMemory>
+    requires call { call < length job.now.task.calls.now }
+    requires share { AreSpeculativeRunsOf job.now.task share.old }
+    ensures { OnOk result (AreSpeculativeRunsOf job.now.task share.new) }
+{
+    if !post.news.is_told() {
+        return run_speculatively(job.alloc, &job.task, job.cells, call, share);
+    }
+    let view = post.news.view(post.thread, job.cells);
+    let from = share.accesses.len();
+    run_speculatively(job.alloc, &job.task, &view, call, share)?;
+    view.note(&share.accesses, from);
+    Ok(())
+}
+
 /// Runs the calls of a batch, as long as calls are run ahead of their turn. Answers whether the pace stops the thread.
 fn run_calls<A: Allocator + Copy, P: Pace>(
     job: &InOrder<'_, '_, A, P>,
+    post: &QueueEnd<'_, '_, A>,
     nth: usize,
     share: &mut SpeculativeRuns<'_, A>,
 ) -> Result<bool, NoMemory>
@@ -60,7 +83,7 @@ fn run_calls<A: Allocator + Copy, P: Pace>(
         if must_stop_before(job.pace, call) {
             return Ok(true);
         }
-        run_speculatively(job.alloc, &job.task, job.cells, call, share)?;
+        run_call(job, post, call, share)?;
     }
     Ok(false)
 }
@@ -68,13 +91,15 @@ fn run_calls<A: Allocator + Copy, P: Pace>(
 /// Runs a batch.
 pub(crate) fn run_batch<'a, A: Allocator + Copy, P: Pace>(
     job: &InOrder<'_, 'a, A, P>,
+    post: &QueueEnd<'_, '_, A>,
     nth: usize,
 ) -> Result<BatchRun<'a, A>, NoMemory>
     requires { IsKnown job.now }
     ensures { IfOk result (λ made. AreSpeculativeRunsOf job.now.task made.batch.share) }
 {
     let mut share = open_speculative_runs(job.alloc, job.task, batch_of(job.order.len()))?;
-    let stops = run_calls(job, nth, &mut share)?;
+    post.news.begin_batch(post.thread);
+    let stops = run_calls(job, post, nth, &mut share)?;
     share.prepared.reverse();
     Ok(BatchRun {
         batch: Batch { nth, share },

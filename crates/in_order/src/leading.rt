@@ -14,6 +14,7 @@ use crate::straight::{StraightRun, run_straight, run_to};
 use crate::turns::do_next;
 use crate::working::{work, work_all};
 use crate::{InOrder, OrderProgress};
+use news::{NO_BATCHES, News, Tally};
 use pace::Pace;
 use spec_ledger::NoMemory;
 use std::alloc::Allocator;
@@ -24,38 +25,6 @@ use std::thread::{Threads, join};
 
 /// How often the thread that does the calls looks for a batch that another has drawn, before it runs the calls itself.
 const LOOKS: u32 = 100;
-
-/// Of how many batches it is reckoned whether it pays to run calls ahead.
-const WINDOW: u32 = 16;
-
-/// How the last batches went.
-#[derive(Clone, Copy)]
-struct Tally {
-    batches: u32,
-    calls: u64,
-    /// How many of the calls were done as they were run ahead.
-    ahead: u64,
-}
-
-/// A tally of no batches.
-const NONE: Tally = Tally {
-    batches: 0,
-    calls: 0,
-    ahead: 0,
-};
-
-/// Notes a batch. Answers whether running calls ahead brings nothing: of the last batches 9 of 10 calls had to be run again.
-fn note(tally: &mut Tally, calls: u64, ahead: u64) -> bool {
-    tally.batches = tally.batches.saturating_add(1);
-    tally.calls = tally.calls.saturating_add(calls);
-    tally.ahead = tally.ahead.saturating_add(ahead);
-    if tally.batches < WINDOW {
-        return false;
-    }
-    let is_vain = tally.ahead.saturating_mul(10) <= tally.calls;
-    *tally = NONE;
-    is_vain
-}
 
 /// Does the calls of a batch by their read-write sets, and runs those again that found other cells, as long as the order is not stopped.
 fn do_batch<'a, A: Allocator + Copy, P: Pace>(
@@ -85,6 +54,7 @@ fn do_share<'a, A: Allocator + Copy, P: Pace>(
     job: &InOrder<'_, 'a, A, P>,
     ran: OrderProgress<A>,
     supply: &mut ReorderBuffer<'a, A>,
+    news: &News<A>,
     tally: &mut Tally,
     share: SpeculativeRuns<'a, A>,
 ) -> Result<StraightRun<A>, NoMemory>
@@ -101,7 +71,7 @@ fn do_share<'a, A: Allocator + Copy, P: Pace>(
     keep(job, supply, share)?;
     let calls = ran.receipts.len().saturating_sub(done) as u64;
     let ahead = u64::from(ran.ahead.saturating_sub(ahead));
-    if note(tally, calls, ahead) {
+    if tally.note(news, &job.drawn, calls, ahead) {
         job.close();
         return run_to(job, ran, job.order.len());
     }
@@ -132,6 +102,21 @@ fn look<'a, A: Allocator + Copy, P: Pace>(
     None
 }
 
+/// Draws the next batch, if one is left and it is the one that is done next, or it pays to run it ahead.
+fn draw_here<A: Allocator + Copy, P: Pace>(
+    job: &InOrder<'_, '_, A, P>,
+    news: &News<A>,
+    tally: &Tally,
+    nth: usize,
+) -> Option<usize> {
+    let is_next = job.drawn.load(Ordering::SeqCst) <= nth as u64;
+    if is_next || tally.pays() && news.is_near(&job.drawn) {
+        draw(job)
+    } else {
+        None
+    }
+}
+
 /// Goes on by a batch: does the next one, where it has come, or runs one that is drawn, the next straight over the cells and another ahead of its turn. Where none
 /// is left to draw and the next one does not come, the calls are run here all the same, and whoever runs them too runs them in vain.
 fn lead_on<'a, A: Allocator + Copy, P: Pace>(
@@ -158,20 +143,48 @@ fn lead_on<'a, A: Allocator + Copy, P: Pace>(
     }
     take_in(job, supply, post);
     if let Some(share) = take_out(job, supply, nth) {
-        return do_share(job, ran, supply, tally, share);
+        return do_share(job, ran, supply, post.news, tally, share);
     }
-    if let Some(drawn) = draw(job) {
+    if let Some(drawn) = draw_here(job, post.news, tally, nth) {
         if drawn == nth {
             return run_to(job, ran, end);
         }
-        let BatchRun { batch, stops } = run_batch(job, drawn)?;
+        let BatchRun { batch, stops } = run_batch(job, post, drawn)?;
         place(job, supply, batch);
         return Ok(StraightRun { ran, stops });
     }
     match look(job, supply, post, nth) {
-        Some(share) => do_share(job, ran, supply, tally, share),
-        None => run_to(job, ran, end),
+        Some(share) => do_share(job, ran, supply, post.news, tally, share),
+        None => {
+            tally.try_again();
+            run_to(job, ran, end)
+        }
     }
+}
+
+/// Goes on by a batch, and tells what its calls changed.
+fn lead_on_and_tell<'a, A: Allocator + Copy, P: Pace>(
+    job: &InOrder<'_, 'a, A, P>,
+    ran: OrderProgress<A>,
+    supply: &mut ReorderBuffer<'a, A>,
+    post: &mut QueueEnd<'_, 'a, A>,
+    tally: &mut Tally,
+) -> Result<StraightRun<A>, NoMemory>
+    requires known { IsKnown job.now }
+    requires ran { IsProgressOf job.now ran }
+    requires supply { IsReorderBufferOf job.now.task supply.old }
+    requires post { IsQueueEndOf job.now post.old }
+    ensures ran { IfOk result (λ came. IsProgressOf job.now came.ran) }
+    ensures supply { IsReorderBufferOf job.now.task supply.new }
+    ensures post { IsQueueEndOf job.now post.new }
+{
+    let done = ran.receipts.len();
+    let was_told = post.news.is_told();
+    post.news.go_to(done / batch_of(job.order.len()));
+    let came = lead_on(job, ran, supply, post, tally)?;
+    post.news
+        .tell(&came.ran.touched, done, &came.ran.cells, was_told);
+    Ok(came)
 }
 
 /// Does the calls in their turn, batch by batch, until all are done or the order or the thread is stopped.
@@ -187,14 +200,14 @@ fn commit_in_order<'a, A: Allocator + Copy, P: Pace>(
 {
     let places = job.order.len() / batch_of(job.order.len()) + 1;
     let mut supply = open_reorder_buffer(job, places)?;
-    let mut tally = NONE;
+    let mut tally = NO_BATCHES;
     let mut came = StraightRun { ran, stops: false };
     for _ in 0..2 * job.order.len() + 2 {
         let is_whole = came.ran.receipts.len() >= job.order.len();
         if is_whole || came.stops || job.is_stopped.load(Ordering::SeqCst) {
             break;
         }
-        came = lead_on(job, came.ran, &mut supply, &mut post, &mut tally)?;
+        came = lead_on_and_tell(job, came.ran, &mut supply, &mut post, &mut tally)?;
     }
     Ok(came.ran)
 }
@@ -340,15 +353,26 @@ pub(crate) fn run_over<
     else {
         return (errand(), Err(NoMemory));
     };
+    let Ok(news) = News::open(job.alloc, job.order.len(), threads) else {
+        return (errand(), Err(NoMemory));
+    };
     let line = &line;
+    let news = &news;
     let own = QueueEnd {
         line,
         pass: line.another(&mut pass),
+        news,
+        thread: threads as usize - 2,
     };
-    let Ok(posts) = make_queue_ends(job, line, &mut pass, threads - 2) else {
+    let Ok(posts) = make_queue_ends(job, line, &mut pass, news, threads - 2) else {
         return (errand(), Err(NoMemory));
     };
-    let first = QueueEnd { line, pass };
+    let first = QueueEnd {
+        line,
+        pass,
+        news,
+        thread: threads as usize - 1,
+    };
     let begun = ran.receipts.len().div_ceil(size) as u64;
     job.drawn.fetch_add(begun, Ordering::SeqCst);
     let (told, led) = join_all(rt, job, ran, posts, first, own, errand);

@@ -1,4 +1,4 @@
-//! The calls of an order, run ahead of their turn by threads and committed in order by one: the threads run over the cells before the first, and the one
+//! The calls of an order, run ahead of their turn by threads and committed in order by one: the threads run over the cells as they know them, and the one
 //! does each call by what it found and left when it was run ahead, or by running it again where it found other cells
 //! ("speculative execution with in-order commit"). The miner of Dickerson, Gazzillo, Herlihy, Koskinen, "Adding Concurrency to Smart
 //! Contracts", PODC 2017, section 4, runs calls speculatively; here the order is there before they run.

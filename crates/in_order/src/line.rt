@@ -9,6 +9,7 @@ use crate::post::QueueEnd;
 use crate::speculative_run::SpeculativeRuns;
 use crate::{InOrder, Task};
 use lanes::{ItemFact, QueuePass, TypedQueue};
+use news::News;
 use pace::Pace;
 use spec_ledger::NoMemory;
 use std::alloc::Allocator;
@@ -77,6 +78,7 @@ pub(crate) fn make_queue_ends<'l, 'a, A: Allocator + Copy, P: Pace>(
     job: &InOrder<'_, 'a, A, P>,
     line: &'l BatchQueue<'a, A>,
     own: &mut BatchPass<'a, A>,
+    news: &'l News<A>,
     count: u32,
 ) -> Result<Vec<QueueEnd<'l, 'a, A>, A>, NoMemory>
     requires task { line.now.key ≡ job.now.task }
@@ -85,9 +87,14 @@ pub(crate) fn make_queue_ends<'l, 'a, A: Allocator + Copy, P: Pace>(
     ensures posts { IfOk result (λ posts. All (IsQueueEndOf job.now) posts.items) }
 {
     let mut posts = Vec::new(job.alloc);
-    for _ in 0..count {
+    for thread in 0..count {
         let pass = line.another(own);
-        posts.push(QueueEnd { line, pass })?;
+        posts.push(QueueEnd {
+            line,
+            pass,
+            news,
+            thread: thread as usize,
+        })?;
     }
     Ok(posts)
 }

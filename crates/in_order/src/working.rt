@@ -30,10 +30,11 @@ pub(crate) fn work<'a, A: Allocator + Copy, P: Pace>(
     requires post { IsQueueEndOf job.now post }
 {
     for _ in 0..job.order.len() {
+        post.news.wait(&job.drawn);
         let Some(nth) = draw(job) else {
             return;
         };
-        let Ok(made) = run_batch(job, nth) else {
+        let Ok(made) = run_batch(job, &post, nth) else {
             note_want(job);
             return;
         };

@@ -63,7 +63,7 @@ pub(crate) struct List {
 }
 
 /// How many calls a list has, how many cells of each kind they use, how many rounds the long ones make, and the seed: lists short enough for the caller alone, and
-/// such that several threads run.
+/// such that several threads run, and are told what was done.
 const LISTS: &[(u32, u32, u32, u64)] = &[
     (0, 3, 1, 1),
     (1, 3, 2_000, 2),
@@ -79,6 +79,8 @@ const LISTS: &[(u32, u32, u32, u64)] = &[
     (513, 1, 500, 12),
     (5_000, 20_000, 20, 13),
     (5_000, 2, 1, 14),
+    (3_000, 400, 20, 15),
+    (400, 60, 2_000, 16),
 ];
 
 /// So many calls over so many cells of each kind, of so many rounds.
