@@ -1,5 +1,5 @@
 # shellcheck shell=bash
-# What files.sh, hostile.sh and crash.sh begin with: each sources it with its own words. It finds the program, makes an empty folder in which the script then runs and which goes
+# What files.sh, hostile.sh, crash.sh and cluster/run.sh begin with: each sources it with its own words. It finds the program, makes an empty folder in which the script then runs and which goes
 # away with it, and counts what is tried. The script ends with `told`.
 set -u
 script=$(basename "$0" .sh)

@@ -1,7 +1,7 @@
 #!/usr/bin/env bash
 # Runs the session of each example with the built program, and the way of docs/GUIDE.md from an empty folder to a validated block, and compares what is printed and each
-# status; then reads by other programs what is shown of each module, world and block that the sessions left (shown.py); then runs the program over files that fail, and
-# over files that are there before they are written (files.sh).
+# status; then reads by other programs what is shown of each module, world and block that the sessions left (shown.py); then runs two nodes through pipes (node/try.py), and
+# the program over files that fail, and over files that are there before they are written (files.sh).
 #
 #   examples/run.sh [PROGRAM]     PROGRAM: crates/wblock/out/wblock of this repository if it is not given
 #
@@ -98,6 +98,7 @@ mkdir "$work/guide"
 guide_into "$work/guide"
 run_session guide
 if "$here/shown.py" "$program" "$work"; then passed=$((passed + 1)); else failed=$((failed + 1)); fi
+if "$here/node/try.py" "$program"; then passed=$((passed + 1)); else failed=$((failed + 1)); fi
 if "$here/files.sh" "$program"; then passed=$((passed + 1)); else failed=$((failed + 1)); fi
 echo "$passed passed, $failed failed"
 [ "$failed" = 0 ] && [ "$passed" != 0 ]

@@ -1,14 +1,15 @@
 //! Steps that are lines of words.
 
 use crate::paces::{Ahead, Clash, Gather, Uneven};
-use byte_sinks::MemorySink;
+use byte_sinks::{Failures, MemorySink};
 use pace::{NoPace, Pace};
 use rows_script::{Came, Fails, cut};
 use std::alloc::Global;
 use std::sync::Wait;
 use std::thread::Threads;
+use wblock_chain::run_session;
 use wblock_commands::run_line;
-use wblock_io::MemoryFiles;
+use wblock_io::{MemoryFiles, MemoryLines};
 use wblock_line::Status;
 use wblock_usage::usage_text;
 
@@ -136,6 +137,37 @@ fn run_words<R: Threads + Wait + Sync, P: Pace>(
     let mut err = MemorySink::new(alloc, PIECE, fails.of_err());
     let status = run_line(rt, alloc, &words, files, &mut out, &mut err, pace);
     Some(Ended { status, out, err })
+}
+
+/// The lines of these bytes. What stands behind the last newline is none.
+fn lines_in(alloc: Global, bytes: &[u8]) -> Option<MemoryLines> {
+    let pieces: Vec<&[u8]> = bytes.split(|b| *b == b'\n').collect(alloc).ok()?;
+    let (_unended, ended) = pieces.as_slice().split_last()?;
+    let mut lines = MemoryLines::new(alloc, Failures::none());
+    for line in ended {
+        lines.push(alloc, *line).ok()?;
+    }
+    Some(lines)
+}
+
+/// Runs a session over the world of a file, whose lines are those of another file, behind the status that is wanted.
+fn session<R: Threads + Wait + Sync>(
+    rt: &R,
+    alloc: Global,
+    rest: &str,
+    files: &mut MemoryFiles,
+    fails: Fails,
+) -> Option<Came> {
+    let (wanted, rest) = cut(rest);
+    let (world, input) = cut(rest);
+    let bytes = files.bytes_of(alloc, input).ok()??;
+    let mut lines = lines_in(alloc, &bytes)?;
+    let mut out = MemorySink::new(alloc, PIECE, fails.of_out());
+    let mut err = MemorySink::new(alloc, PIECE, fails.of_err());
+    let status = run_session(
+        rt, alloc, world, files, &mut lines, &mut out, &mut err, &NoPace,
+    );
+    came(alloc, wanted, word_of(status), &Ended { status, out, err })
 }
 
 /// Runs a line of words behind the status that is wanted.
@@ -392,6 +424,7 @@ pub(crate) fn do_step<R: Threads + Wait + Sync>(
 ) -> Option<Came> {
     match word {
         "run" => plain(rt, alloc, rest, files, fails),
+        "session" => session(rt, alloc, rest, files, fails),
         "gather" => gathered(rt, alloc, rest, files, fails),
         "clash" => clashed(rt, alloc, rest, files, fails),
         "twice" => twice(rt, alloc, rest, files, fails),

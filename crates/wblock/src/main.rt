@@ -1,15 +1,16 @@
-//! The program: one line of words over the machine's files and streams.
+//! The program: one line of words over the machine's files and streams, or a session of lines.
 #![tactic(auto)]
 
 use byte_sinks::put_all;
 use std::alloc::{AllocError, Global};
-use std::io::{ErrorKind, IsTerminal, Write};
+use std::io::{BufReader, ErrorKind, IsTerminal, Write};
 use std::process::ExitCode;
 use std::rt::Env;
 use std::sync::Wait;
 use std::thread::Threads;
+use wblock_chain::{run_session, session_world_of};
 use wblock_commands::run_line;
-use wblock_io::{Disk, Stream};
+use wblock_io::{Disk, LineReader, Stream};
 use wblock_line::{Progress, Status, Wiped, without_quiet};
 
 /// So many bytes no word has that the system hands over.
@@ -63,7 +64,7 @@ fn tell_not_utf8(rt: &HostRuntime, number: Option<usize>) -> u8 {
     Status::Usage as u8
 }
 
-/// Runs the words over the machine's files and streams, and gives the status. Where standard error is a terminal and the words do not ask for quiet,
+/// Runs the words over the machine's files and streams, or the session that they ask for over standard input, too, and gives the status. Where standard error is a terminal and the words do not ask for quiet,
 /// the progress stands there meanwhile. The second handle starts threads.
 fn run<R: Threads + Wait + Sync>(rt: &HostRuntime, threads: &R) -> Result<u8, AllocError> {
     let alloc = rt.alloc();
@@ -80,15 +81,21 @@ fn run<R: Threads + Wait + Sync>(rt: &HostRuntime, threads: &R) -> Result<u8, Al
     let mut files = Disk::new(rt);
     let mut out = Stream::new(Wiped::new(rt.stdout(), &progress));
     let mut err = Stream::new(Wiped::new(rt.stderr(), &progress));
-    let status = run_line(
-        threads,
-        alloc,
-        line.others.as_slice(),
-        &mut files,
-        &mut out,
-        &mut err,
-        &progress,
-    );
+    let words = line.others.as_slice();
+    let status = match session_world_of(alloc, words)? {
+        None => run_line(
+            threads, alloc, words, &mut files, &mut out, &mut err, &progress,
+        ),
+        Some(name) => {
+            let Ok(reader) = BufReader::new(alloc, rt.reader()) else {
+                return Err(AllocError);
+            };
+            let mut lines = LineReader::new(reader);
+            run_session(
+                threads, alloc, name, &mut files, &mut lines, &mut out, &mut err, &progress,
+            )
+        }
+    };
     Ok(status as u8)
 }
 

@@ -1,5 +1,5 @@
 mod Heaps
-mod Noting
+pub mod Noting
 pub mod Numbers
 mod Saying
 pub mod Asked

@@ -3,9 +3,9 @@ use Rattle.std.proofs.Common.{◌≡◌, ℕ, ◌⊎◌, List, [], ◌∷◌, in
 use Rattle.std.specs.List.{AllByRecursion}
 use Rattle.spec_ledger.specs.declared.Outcome.{Outcome}
 use Rattle.spec_ledger.specs.declared.Outcome.TheVariants.{Returned, Trapped, OutOfFuel, Rejected}
-use Rattle.wblock_line.specs.Answers.{EndsLine, IsSaid}
+use Rattle.wblock_line.specs.Answers.{EndsLine, IsSaid, Upshot, upshot_of}
 use Rattle.wblock_line.specs.declared.answer.Answer.{Answer}
-use Rattle.wblock_blocks.specs.Notes.{IsReturn, HasReturned}
+use Rattle.wblock_blocks.specs.Notes.{IsReturn, HasReturned, Notes}
 use Rattle.wblock_commands.specs.Does.{IsMine, IsNote, SaysNote}
 use Rattle.wblock_commands.specs.declared.command.Command.{Command}
 use Rattle.wblock_commands.specs.declared.command.Command.TheVariants.{Stored, Help, Version, Asm, Text, Check, Deploy, Mine, Validate, Call, Debug, Show}
@@ -30,6 +30,10 @@ of_either : {All N E : Type 0} → All ⊎ (All → ⊥) → (All → N) → ((A
 of_either (inl all) silent told = inl (silent all)
 of_either (inr not) silent told = inr (told not)
 
+pub is_note : (u : Upshot) (note : List ℕ) → Notes u note → (note ≡ []) ⊎ EndsLine note
+is_note u note (inl h) = of_either (all_or_not HasReturned (λ p. returned_or_not p.receipt.outcome) h.block.positions) h.is_note.silent h.is_note.told
+is_note u note (inr h) = inl h.1
+
 is_text : (c : Command) (a : Answer) (note : List ℕ) → IsNote c a note → (note ≡ []) ⊎ EndsLine note
 is_text Stored a note h = inl h
 is_text (Help words) a note h = inl h
@@ -38,8 +42,7 @@ is_text (Asm text target json) a note h = inl h
 is_text (Text source target unchecked json) a note h = inl h
 is_text (Check target heap json) a note h = inl h
 is_text (Deploy task) a note h = inl h
-is_text (Mine task) a note (inl h) = of_either (all_or_not HasReturned (λ p. returned_or_not p.receipt.outcome) h.block.positions) h.is_note.silent h.is_note.told
-is_text (Mine task) a note (inr h) = inl h.1
+is_text (Mine task) a note h = is_note (upshot_of a) note h
 is_text (Validate task) a note h = inl h
 is_text (Call task) a note h = inl h
 is_text (Debug task) a note h = inl h

@@ -176,6 +176,16 @@ fn call<'a>(alloc: Global) -> Result<Command<'a>, AllocError> {
         .arg(switch(alloc, SIGNED))
 }
 
+fn chain<'a>(alloc: Global) -> Result<Command<'a>, AllocError> {
+    Command::new(alloc, "chain")
+        .about("Keeps a world, and answers lines of standard input over it")
+        .after_help(
+            "A line is `mine CALLS BLOCK ..`, `validate CALLS BLOCK ..`, `call CONTRACT FUEL ENTRY ARG...` or `deploy MODULE...`, each over the world that is kept, or `save FILE`, `digest` or `quit`. CALLS `-` stands for calls behind the line, up to an empty line; BLOCK `-` of `mine` tells the block's bytes. Each answer ends with a line `status N`.",
+        )
+        .arg(world(alloc))?
+        .arg(switch(alloc, QUIET))
+}
+
 fn debug<'a>(alloc: Global) -> Result<Command<'a>, AllocError> {
     Command::new(alloc, "debug")
         .about(
@@ -233,6 +243,7 @@ fn program<'a>(alloc: Global) -> Result<Command<'a>, AllocError> {
         .subcommand(mine(alloc)?)?
         .subcommand(validate(alloc)?)?
         .subcommand(call(alloc)?)?
+        .subcommand(chain(alloc)?)?
         .subcommand(debug(alloc)?)?
         .subcommand(show(alloc)?)
 }
@@ -283,6 +294,8 @@ const VALIDATE: [&str; 2] = ["validate", "--help"];
 
 const CALL: [&str; 2] = ["call", "--help"];
 
+const CHAIN: [&str; 2] = ["chain", "--help"];
+
 const DEBUG: [&str; 2] = ["debug", "--help"];
 
 const SHOW: [&str; 2] = ["show", "--help"];
@@ -302,6 +315,7 @@ fn topic_of(words: &[&str]) -> &'static [&'static str] {
         "mine" => MINE.as_slice(),
         "validate" => VALIDATE.as_slice(),
         "call" => CALL.as_slice(),
+        "chain" => CHAIN.as_slice(),
         "debug" => DEBUG.as_slice(),
         "show" => SHOW.as_slice(),
         _ => HELP.as_slice(),

@@ -1,0 +1,6 @@
+pub mod Answered
+pub mod Plans
+pub mod Replies
+pub mod Requests
+pub mod Sessions
+pub mod Words
