@@ -2,7 +2,7 @@
 """Tries wrong bodies, which the prover has to refuse (docs/WRONG_BODIES.md).
 
     wrong-bodies.py NAME..        those of these crates: rows and edits
-    wrong-bodies.py --rows        the rows of all crates, as the gate does, the edits on wrappers that `rt ci` does not try, and those inside five crates
+    wrong-bodies.py --rows        the rows of all crates, as the gate does, the edits on wrappers that `rt ci` does not try, and those inside six crates
     wrong-bodies.py --wrappers    all edits on wrappers, in the crates edits_*
     wrong-bodies.py --all         the rows and edits of all crates
     wrong-bodies.py --list        how many each crate has
@@ -54,7 +54,7 @@ VERDICT = re.compile(r"^fn (\S+): (.*)$", re.M)
 # What a verdict begins with where nothing is known of the body itself.
 UNTOLD = ("could not tell", "no proof: it calls")
 # Crates inside which `--rows` tries edits, too: `rt ci` would check the whole crate once more for them, and this script checks their functions.
-INSIDE = ("abstract_locks", "lock_profile", "boost", "validator", "foshqarel_c")
+INSIDE = ("abstract_locks", "lock_profile", "boost", "validator", "wblock_chain", "foshqarel_c")
 
 
 class Crate:
@@ -723,7 +723,7 @@ def try_crate(crate, given, known, kit):
 def main():
     parser = argparse.ArgumentParser(description="Tries wrong bodies, which the prover has to refuse.")
     parser.add_argument("names", nargs="*", metavar="NAME", help="crates whose wrong bodies are tried")
-    parser.add_argument("--rows", action="store_true", help="the rows of all crates, and edits that rt ci does not try: on wrappers, and inside five crates")
+    parser.add_argument("--rows", action="store_true", help="the rows of all crates, and edits that rt ci does not try: on wrappers, and inside six crates")
     parser.add_argument("--wrappers", action="store_true", help="all edits on wrappers, in the crates edits_*")
     parser.add_argument("--all", action="store_true", help="the rows and edits of all crates")
     parser.add_argument("--list", action="store_true", help="only say how many each crate has")
