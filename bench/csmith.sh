@@ -3,16 +3,18 @@
 # and s, and each eight programs are the contracts of one world, whose `run` gives the checksum of all variables in the end. The program mines a block of one call of each
 # by 4 workers, and accepts it; and what each call returned, or how it trapped, has to be what V8 (node) gives of the module. Left out are modules that pass a limit of
 # docs/REFERENCE.md, section 9, or that clang takes more than five minutes for, and calls that use up 50,000,000 units of fuel. It prints a line a minute and how many there
-# were, and fails at the first difference, whose world it then keeps. Run it anywhere in the repository:
+# were, and fails at the first difference, whose world it then keeps. Words behind the seed go to csmith: clang takes a tenth of the time for its programs of
+# `--max-funcs 4 --max-block-depth 2 --max-block-size 3`. Run it anywhere in the repository:
 #
-#   bench/csmith.sh [PROGRAM] PROGRAMS [SEED]
+#   bench/csmith.sh [PROGRAM] PROGRAMS [SEED [WORD ..]]
 source "$(dirname "${BASH_SOURCE[0]}")/common.sh" wblock csmith clang wasm-ld node
 
 take_program "$@"
 set -- "${rest[@]}"
-[[ $# -ge 1 && $# -le 2 && $1 =~ ^[1-9][0-9]{0,5}$ && ${2:-0} =~ ^[0-9]{1,9}$ ]] || usage "[PROGRAM] PROGRAMS [SEED]"
+[[ $# -ge 1 && $1 =~ ^[1-9][0-9]{0,5}$ && ${2:-0} =~ ^[0-9]{1,9}$ ]] || usage "[PROGRAM] PROGRAMS [SEED [WORD ..]]"
 most=$1
 seed=${2:-1}
+wanted=("${@:3}")
 [[ -f /usr/include/csmith/safe_math.h ]] || fail "safe_math.h is missing: apt-get install libcsmith-dev"
 
 # Compiles one of the world's programs at a level: its place and the level. (With -O0 itself most have too many locals.)
@@ -58,7 +60,7 @@ while ((programs < most)); do
   count=$((most - programs < 8 ? most - programs : 8))
   for ((place = 0; place < count; place++)); do
     # (it writes a file where it runs)
-    (cd "$BATCH" && timeout 300 csmith --seed $((seed * 1000000 + programs + place)) --no-argc --no-float >"$place.c") || fail "csmith ends with status $? at program $((programs + place)) of seed $seed"
+    (cd "$BATCH" && timeout 300 csmith --seed $((seed * 1000000 + programs + place)) --no-argc --no-float "${wanted[@]}" >"$place.c") || fail "csmith ends with status $? at program $((programs + place)) of seed $seed"
   done
   for ((place = 0; place < count; place++)); do
     for level in 0 1 2 3 s; do echo "$place $level"; done

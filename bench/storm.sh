@@ -4,7 +4,7 @@
 # others, down to the last level and past it, and levels trap and are undone. Some lists have 3,000 calls, which workers run beside the cells where the calls do not wait
 # for one another; some have more calls than the block has fuel for.
 # Each block has to be accepted, with the world that the miner wrote; and its calls, one after another in its order, have to come to the same receipts and to leave the
-# same world, both mined by one worker and, where the gate built the program `bench`, by the serial executor. A block in the order of the list has to be that of one
+# same world, both mined by one worker and, where the gate built the program `rows`, by the serial executor. A block in the order of the list has to be that of one
 # worker. It prints a line a minute and how many blocks and calls there were, and fails at the first difference, whose files it then keeps. Run it anywhere in the repository:
 #
 #   bench/storm.sh [PROGRAM] MINUTES [SEED]
@@ -146,7 +146,7 @@ CALLS
     "$wblock" mine "$work/before" "$work/calls" "$work/again.block" "$work/again" --fuel "$fuel" --workers 1 >"$work/one" 2>/dev/null || lost "mine by one worker: status $?"
     cmp -s "$work/block" "$work/again.block" && cmp -s "$work/mined" "$work/one" || lost "one worker has another block"
   fi
-  if [[ -x $program ]]; then
+  if [[ -x crates/rows/out/rows ]]; then
     serial=$("$program" block serial 1 "$work/before" "$work/ordered") || lost "serial: status $?"
     [[ $serial =~ after\ ([0-9a-f]{64}) && "after ${BASH_REMATCH[1]}" == "$(grep '^after' "$work/mined")" ]] || lost "serial: $serial"
   fi
@@ -157,5 +157,5 @@ CALLS
     echo "$blocks blocks, $calls calls, $levels levels"
   fi
 done
-echo "seed $seed: $blocks blocks of $calls calls with $levels levels in $minutes minutes: no difference$([[ -x $program ]] || echo " (without the serial executor, which was not built)")"
+echo "seed $seed: $blocks blocks of $calls calls with $levels levels in $minutes minutes: no difference$([[ -x crates/rows/out/rows ]] || echo " (without the serial executor, which was not built)")"
 took
