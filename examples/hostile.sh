@@ -1,7 +1,7 @@
 #!/usr/bin/env bash
 # Gives the program what a stranger may send to stop it: calls that never end, with limits of fuel above the block's, among so many others that the miner
 # tries some of them first; and blocks that name such calls and were never mined, which the validator's workers might run ahead of its judgement, and the
-# debugger before the call that it is asked for. It answers each rightly in two seconds, of which it needs some hundredths; one that hangs is a row that failed.
+# debugger before the call that it is asked for; and worlds that name more cells than they have. It answers each rightly in two seconds, of which it needs some hundredths; one that hangs is a row that failed.
 #
 #   examples/hostile.sh [PROGRAM]     PROGRAM: crates/wblock/out/wblock of this repository if it is not given
 #
@@ -18,6 +18,12 @@ mines() {
 
 # Whether the program is done within so many seconds: $1 the seconds, and the words.
 ends() { { timeout -s KILL "$1" "$program" "${@:2}" >out 2>err; } 2>/dev/null; }
+
+# Whether a file is refused at once as no world, with 500 MB of memory: $1 the file.
+is_no_world() {
+    { (ulimit -v 500000 && timeout -s KILL 2 "$program" call "$1" 0 1000 f >out 2>err); } 2>/dev/null
+    [ $? = 1 ] && grep -q '^refused world 1 ' out
+}
 
 # Whether a block is rejected: $1 the line, $2 the block, $3 the calls, and the words.
 is_rejected() {
@@ -218,6 +224,12 @@ for list in table elements globals exports; do
     lists $list >module
     is "a module with a long list is deployed: $list" ends 10 deploy lists.$list module
     is "65,535 calls to a module with a long list: $list" ends 10 mine lists.$list calls b n --fuel 65535 --workers 1
+done
+
+# worlds that name more cells than they have bytes for: they are refused before a list is made, which would not fit into this memory
+for count in 100000000 18446744073709551615; do
+    python3 -c "open('forged', 'wb').write(open('world', 'rb').read()[:-16] + int($count).to_bytes(8, 'little') + bytes(28))"
+    is "a world that names $count cells" is_no_world forged
 done
 
 told
