@@ -11,7 +11,7 @@ a colon, a semicolon or a bracket.
 **The doors.** Each crate has a README.md of at most 40 lines.
 
 **The documents** keep the limits below, in bytes and in words. A sentence ends at a dot, a question mark or an exclamation mark with a space behind it. What
-stands in backticks is one word. Headings, tables, code and what a script writes do not count.
+stands in backticks is one word. Of headings, tables, code and what a script writes the words do not count.
 
 **The layers** are those of crates.txt, the lowest first. A crate depends on crates of its own layer and of lower ones.
 
@@ -35,27 +35,30 @@ TOP = pathlib.Path(__file__).resolve().parent
 MAP = TOP / "docs/ARCHITECTURE.md"
 BEGIN, END = "<!-- map: written by house.py --map -->", "<!-- map: end -->"
 
-# What all documents have together at most, in bytes, without the parts that scripts write.
-ALL_BYTES = 200_000
+# What all documents have together at most, in bytes.
+ALL_BYTES = 204_800
 # What each document has at most, in bytes.
 LIMITS = {
     "README.md": 4_500,
-    "CONTRIBUTING.md": 12_200,
-    "CHANGELOG.md": 7_500,
-    "docs/ARCHITECTURE.md": 15_500,
-    "docs/BENCHMARKS.md": 13_500,
+    "CONTRIBUTING.md": 11_700,
+    "CHANGELOG.md": 6_500,
+    "docs/ARCHITECTURE.md": 23_000,
+    "docs/BENCHMARKS.md": 12_000,
     "docs/DECISIONS.md": 28_000,
     "docs/DEFINITIONS.md": 18_600,
     "docs/GUIDE.md": 21_000,
     "docs/PROOFS.md": 7_500,
-    "docs/REFERENCE.md": 60_500,
+    "docs/REFERENCE.md": 61_000,
     "docs/STATUS.md": 9_500,
-    "docs/WRONG_BODIES.md": 8_000,
+    "docs/WRONG_BODIES.md": 7_000,
 }
 # The median of the words of a document's sentences, and how many of them have more than 40.
 MEDIAN, LONG = 17, 0
 # Where the part of a document begins and ends that a script writes.
-WRITTEN = {"docs/WRONG_BODIES.md": ("## 2. All wrong bodies", "## 3."), "docs/ARCHITECTURE.md": (BEGIN, END)}
+WRITTEN = {
+    "docs/ARCHITECTURE.md": (BEGIN, END),
+    "docs/WRONG_BODIES.md": ("<!-- counts: written by wrong-bodies.py --document -->", "<!-- counts: end -->"),
+}
 
 README_LINES = 40
 # READMEs that are longer, and why.
@@ -68,7 +71,7 @@ UPWARD = {}
 
 # How many lines of code and functions a crate has at most, and the crates that have more (docs/DECISIONS.md, 'Crates and copies', says why).
 LINES, FUNCTIONS = 1_500, 100
-LARGE = {"interp": (2_000, 101), "rows_texts": (LINES, 109), "tests_blocks": (1_900, FUNCTIONS), "tests_program": (1_600, 105), "tests_threads": (1_600, FUNCTIONS), "tests_verdicts": (2_400, 106)}
+LARGE = {"interp": (2_140, 109), "serial": (1_850, FUNCTIONS), "rows_texts": (LINES, 109), "tests_blocks": (1_900, FUNCTIONS), "tests_program": (1_600, 105), "tests_threads": (1_600, FUNCTIONS), "tests_verdicts": (2_400, 106)}
 
 
 def layers():
@@ -160,9 +163,8 @@ def lengths(text):
 
 def figures(name):
     """The bytes of a document, the median of its sentences' words, and how many have more than 40."""
-    text = by_hand(name)
-    words = lengths(text) or [0]
-    return len(text.encode()), statistics.median(words), sum(it > 40 for it in words)
+    words = lengths(by_hand(name)) or [0]
+    return len((TOP / name).read_bytes()), statistics.median(words), sum(it > 40 for it in words)
 
 
 def faults_of_documents():

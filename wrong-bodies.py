@@ -2,11 +2,11 @@
 """Tries wrong bodies, which the prover has to refuse (docs/WRONG_BODIES.md).
 
     wrong-bodies.py NAME..        those of these crates: rows and edits
-    wrong-bodies.py --rows        the rows of all crates, as the gate does, the edits on wrappers that `rt ci` does not try, and those inside six crates
+    wrong-bodies.py --rows        the rows of all crates, as the gate does, the edits on wrappers that `rt ci` does not try, and those inside seven crates
     wrong-bodies.py --wrappers    all edits on wrappers, in the crates edits_*
     wrong-bodies.py --all         the rows and edits of all crates
-    wrong-bodies.py --list        how many each crate has
-    wrong-bodies.py --document    writes part 2 of docs/WRONG_BODIES.md; --documented looks whether it is as written
+    wrong-bodies.py --list [NAME..]    all of them, or those of these crates' functions, as tables, and the public functions that have none
+    wrong-bodies.py --document    writes the counts into docs/WRONG_BODIES.md; --documented looks whether they are as written
     wrong-bodies.py --make FOLDER NAME..    writes the wrappers of these crates' rows into FOLDER/NAME, to be looked at
 
 **Rows** stand in crates/NAME/wrong-bodies.rows, beside the functions that they break:
@@ -25,7 +25,7 @@ For each function there is also a wrapper whose body is the call of the real one
 
 **Edits** stand in crates/NAME/must-fail/ and crates/NAME/wrong-bodies/, and exchange texts of that crate. `# of: FUNCTION`, `# by: CLAUSES` and `# what it does`
 stand at their head. All edits of a crate are tried in one check, too: each but the first of a function stands in a copy of it, under a name of its own. An
-edit whose function has proof files, or that reaches beyond one function, gets no copy, but a check of its own where another one is in its way.
+edit of a method, of a function that has proof files, or of more than one function gets no copy, but a check of its own where another one is in its way.
 
 A body is refused where its function is not proved by itself. Behind it stand the goals that were not, `false` where values are known that break one, `at a
 limit` where the search gave up, and `NOT BY` the clauses of the row where none of them is among these. The last line counts all.
@@ -46,6 +46,7 @@ import tempfile
 
 TOP = pathlib.Path(__file__).resolve().parent
 DOCUMENT = TOP / "docs/WRONG_BODIES.md"
+BEGIN, END = "<!-- counts: written by wrong-bodies.py --document -->", "<!-- counts: end -->"
 FOLDERS = ("must-fail", "wrong-bodies")
 PARTS = ("src", "specs", "proofs")
 FUNCTION = re.compile(r"^( *)(?:pub(?:\([a-z]+\))? )?(?:const )?(?:extern \"C\" )?fn (\w+)", re.M)
@@ -54,7 +55,7 @@ VERDICT = re.compile(r"^fn (\S+): (.*)$", re.M)
 # What a verdict begins with where nothing is known of the body itself.
 UNTOLD = ("could not tell", "no proof: it calls")
 # Crates inside which `--rows` tries edits, too: `rt ci` would check the whole crate once more for them, and this script checks their functions.
-INSIDE = ("abstract_locks", "lock_profile", "boost", "validator", "wblock_chain", "foshqarel_c")
+INSIDE = ("abstract_locks", "lock_profile", "boost", "news", "validator", "wblock_chain", "foshqarel_c")
 
 
 class Crate:
@@ -247,8 +248,13 @@ class Package:
         return found and "::".join(found)
 
 
+def block_at(text, at):
+    """The `impl` or trait in which a place stands."""
+    return [it for it in re.finditer(r"^(impl|(?:pub(?:\([a-z]+\))? )?trait)\b([^{]*)\{", text, re.M) if it.start() < at][-1]
+
+
 class Real:
-    """A function that has wrong bodies, as its source has it."""
+    """A public function, as its source has it."""
 
     def __init__(self, package, path):
         self.package, self.path = package, path
@@ -266,16 +272,12 @@ class Real:
         self.text = package.files[self.module]
         self.read(head)
 
-    def block(self, text, at):
-        """The `impl` or trait in which a place stands."""
-        return [it for it in re.finditer(r"^(impl|pub trait)\b([^{]*)\{", text, re.M) if it.start() < at][-1]
-
     def is_it(self, text, head):
         """Whether a head is the function's, as far as it is public."""
         is_public = head[0].lstrip().startswith("pub")
         if not head[1] or not self.owner:
             return not head[1] and not self.owner and is_public
-        block = self.block(text, head.start())
+        block = block_at(text, head.start())
         kind = generics_of(one_line(block[2]))[1].strip()
         return len(head[1]) == 4 and re.match(r"\w+", kind)[0] == self.owner and " for " not in kind and is_public == (block[1] == "impl")
 
@@ -284,7 +286,7 @@ class Real:
         pad = head[1]
         self.ghosts, self.generics, self.kind, self.wheres, self.told = [], [], None, [], []
         if pad:
-            self.read_block(self.block(self.text, head.start()), head.start())
+            self.read_block(block_at(self.text, head.start()), head.start())
         lines = []
         for line in self.text[head.start() :].split("\n"):
             if line == pad + "{":
@@ -473,7 +475,7 @@ class Edit:
 
     def __init__(self, crate, path):
         self.name = f"{crate.name}/{path.name}"
-        # what docs/WRONG_BODIES.md says of it: `# of: FUNCTION`, `# by: CLAUSES`, `# what it does`
+        # what `--list` says of it: `# of: FUNCTION`, `# by: CLAUSES`, `# what it does`
         self.told = [re.sub(r"^(of|by): ", "", it[2:]) for it in path.read_text().split("\n") if it.startswith("# ")]
         self.pairs, self.why, self.function, self.is_free = [], None, None, False
         file = old = None
@@ -506,7 +508,8 @@ class Edit:
             return
         self.start, self.end, self.function = spans[0]
         proofs = crate.folder / "proofs"
-        self.is_free = not any(it.name == self.function for it in proofs.rglob("*") if it.is_dir())
+        is_method = text[self.start] == " "
+        self.is_free = not is_method and not any(it.name == self.function for it in proofs.rglob("*") if it.is_dir())
 
     def apply(self, text):
         for _, old, new in self.pairs:
@@ -581,7 +584,8 @@ def path_of(crate, file, function, text):
     owner = above[-1] if above else ""
     while "<" in owner:
         owner = re.sub(r"<[^<>]*>", "", owner)
-    owner = re.findall(r"(\w+) \{", owner)
+    # the check names what a type has of a trait by both: `ViewReads`
+    owner = [kind + trait for trait, kind in re.findall(r"(?:(\w+) for )?(\w+) \{", owner)]
     module = [it for it in pathlib.Path(file).with_suffix("").parts[1:] if it not in ("lib", "mod")]
     return "::".join([crate.name, *module, *owner, function])
 
@@ -663,11 +667,11 @@ def first_error(ran):
     return errors[0][:300] if errors else f"its check ended with status {ran.returncode}"
 
 
-# ---- The document ----
+# ---- What there is ----
 
 
-def tables(known):
-    """Part 2 of docs/WRONG_BODIES.md: a table for each crate whose functions have wrong bodies."""
+def all_told(known):
+    """All wrong bodies by the crates whose functions they break: of each the function, what refuses it, what it does, and its name."""
     found = {}
     for crate in known.values():
         for row in Rows(crate).all if crate.has_rows() else []:
@@ -678,30 +682,78 @@ def tables(known):
                 raise SystemExit(f"{edit.name} does not say what it is of, what refuses it and what it does")
             of, clauses, does = edit.told
             owner = re.search(r"\w+", of)[0] if crate.name.startswith("edits_") else crate.name
+            if owner not in known:
+                raise SystemExit(f"{edit.name} does not say of which crate its function is")
             found.setdefault(owner, []).append((of.replace(f"`{owner}::", "`"), clauses, does, f"`{crate.name}/{path.parent.name}/{path.stem}`"))
+    return {name: found.get(name, []) for name in known}
+
+
+def public_functions(crate):
+    """The public functions of a crate that have a contract and do something, each with the name of its type. Of definitions, laws and tests none counts."""
+    if re.match("spec_|laws_|tests_|edits_|rows|bench|test_support", crate.name) or not (crate.folder / "src/lib.rt").is_file():
+        return []
+    package, found = Package(crate), []
+    for module, text in package.files.items():
+        for head in FUNCTION.finditer(text):
+            owner = [re.match(r"\w+", generics_of(one_line(block_at(text, head.start())[2]))[1].strip())[0]] if head[1] else []
+            try:
+                real = Real(package, "::".join([*module, *owner, head[2]]))
+            except Unmade:
+                continue
+            is_shown = not owner or owner[0] in {it[-1] for it in package.public}
+            if is_shown and "ensures" in " ".join(real.clauses) and (real.result.strip() or "&mut" in " ".join(real.params)):
+                found.append("::".join([*owner, head[2]]))
+    return list(dict.fromkeys(found))
+
+
+def bare(crate, told):
+    """Those of a crate's public functions that have no wrong body."""
+    paths = [it.split("::") for of, *_ in told for it in re.findall(r"`([\w:]+)", of)]
+    named = {"::".join(it[-2:] if it[-2:][0][0].isupper() else it[-1:]) for it in paths}
+    return [it for it in public_functions(crate) if it not in named]
+
+
+def tables(known, names):
+    """Of these crates all wrong bodies of their functions, each crate's as a table."""
     lines = []
-    for name in (it for it in known if it in found):
-        lines += [f"### `{name}` ({len(found[name])})", "", "| Function | Refused by | What the body does | Wrong body |", "|---|---|---|---|"]
-        for function, clauses, does, body in found[name]:
+    for name, told in all_told(known).items():
+        without = bare(known[name], told)
+        if names and name not in names or not told and not without:
+            continue
+        lines += [f"### `{name}` ({len(told)})", ""]
+        if told:
+            lines += ["| Function | Refused by | What the body does | Wrong body |", "|---|---|---|---|"]
+        for function, clauses, does, body in told:
             plain = re.fullmatch(r"\w+(, \w+)*", clauses)
             by = "its clause" if clauses == "-" else ", ".join(f"`{it}`" for it in clauses.split(", ")) if plain else clauses
             lines.append(f"| {function} | {by} | {does} | {body} |")
+        if without:
+            lines += [""] * bool(told) + ["Without one: " + ", ".join(f"`{it}`" for it in without) + "."]
         lines.append("")
     return "\n".join(lines)
 
 
+def counts(known):
+    """How many there are, and of which crates' functions, in the layers of crates.txt."""
+    told = all_told(known)
+    rows = sum(len(Rows(it).all) for it in known.values() if it.has_rows())
+    gate, beside = (sum(len(it.edits([folder])) for it in known.values()) for folder in FOLDERS)
+    tried = sum(len(it.edits(["wrong-bodies"])) for it in known.values() if it.name.startswith("edits_") or it.name in INSIDE)
+    lines = [f"There are {rows + gate + beside}: {rows} rows and {gate + beside} edits. `rt ci` tries {gate} edits, `--rows` all rows and {tried} edits more.", ""]
+    lines += ["| Layer | How many, of each crate |", "|---|---|"]
+    layers = re.findall(r"^# (.*)\n((?:(?!#).*\n?)*)", (TOP / "crates.txt").read_text(), re.M)
+    for layer, crates_of in layers:
+        each = [f"`{it}` {len(told[it])}" for it in re.findall(r"^\w+", crates_of, re.M) if told[it]]
+        lines += [f"| {layer} | {', '.join(each)} |"] if each else []
+    functions, without = (sum(len(it) for it in found) for found in zip(*((public_functions(it), bare(it, told[it.name])) for it in known.values())))
+    lines += ["", f"Of {functions} public functions of the product that have a contract and do something, {without} have none."]
+    return "\n".join(lines)
+
+
 def documented(known):
-    """The document with its part 2 as it has to be."""
-    text = DOCUMENT.read_text()
-    front, behind = text.index("\n### ", text.index("\n## 2. ")) + 1, text.index("\n## 3. ") + 1
-    return text[:front] + tables(known) + "\n" + text[behind:]
-
-
-def listed(known):
-    for it in known.values():
-        rows, gate, beside = len(Rows(it).all) if it.has_rows() else 0, len(it.edits(["must-fail"])), len(it.edits(["wrong-bodies"]))
-        if rows or gate or beside:
-            yield rows, gate, beside, it.name
+    """The document with its counts as they have to be."""
+    head, _, rest = DOCUMENT.read_text().partition(BEGIN)
+    return f"{head}{BEGIN}\n\n{counts(known)}\n\n{END}{rest.partition(END)[2]}"
 
 
 def wanted(crate, given):
@@ -723,22 +775,20 @@ def try_crate(crate, given, known, kit):
 def main():
     parser = argparse.ArgumentParser(description="Tries wrong bodies, which the prover has to refuse.")
     parser.add_argument("names", nargs="*", metavar="NAME", help="crates whose wrong bodies are tried")
-    parser.add_argument("--rows", action="store_true", help="the rows of all crates, and edits that rt ci does not try: on wrappers, and inside six crates")
+    parser.add_argument("--rows", action="store_true", help="the rows of all crates, and edits that rt ci does not try: on wrappers, and inside seven crates")
     parser.add_argument("--wrappers", action="store_true", help="all edits on wrappers, in the crates edits_*")
     parser.add_argument("--all", action="store_true", help="the rows and edits of all crates")
-    parser.add_argument("--list", action="store_true", help="only say how many each crate has")
-    parser.add_argument("--document", action="store_true", help="only write the tables of docs/WRONG_BODIES.md")
-    parser.add_argument("--documented", action="store_true", help="only see whether these tables are as written")
+    parser.add_argument("--list", action="store_true", help="only print them, and the public functions that have none")
+    parser.add_argument("--document", action="store_true", help="only write the counts of docs/WRONG_BODIES.md")
+    parser.add_argument("--documented", action="store_true", help="only see whether these counts are as written")
     parser.add_argument("--make", metavar="FOLDER", help="only write the wrappers of the rows into FOLDER/NAME")
     parser.add_argument("--jobs", type=int, default=len(os.sched_getaffinity(0)), help="checks at once (as many as processors)")
     given = parser.parse_args()
     known = crates()
     if given.list:
-        found = list(listed(known))
-        for rows, gate, beside, name in found:
-            print(f"{name}: {rows} rows, {gate + beside} edits, of which `rt ci` tries {gate}")
-        rows, gate, beside = (sum(it[at] for it in found) for at in range(3))
-        print(f"{rows + gate + beside} wrong bodies: {rows} rows, {gate + beside} edits, of which `rt ci` tries {gate}")
+        for name in (it for it in given.names if it not in known):
+            parser.error(f"there is no crate {name}")
+        print(tables(known, given.names), end="")
         return 0
     if given.document:
         DOCUMENT.write_text(documented(known))

@@ -10,6 +10,7 @@ use crate::speculative_run::{SpeculativeRuns, open_speculative_runs, run_specula
 use crate::straight::must_stop_before;
 use crate::{InOrder, NO_MORE};
 use pace::Pace;
+use serial::Runner;
 use spec_ledger::NoMemory;
 use std::alloc::Allocator;
 use std::sync::atomic::Ordering;
@@ -41,10 +42,11 @@ pub(crate) struct BatchRun<'a, A: Allocator> {
     pub(crate) stops: bool,
 }
 
-/// Runs a call ahead of its turn: over the cells before the first, or, where threads are told what was done, over the cells as this one knows them.
-fn run_call<A: Allocator + Copy, P: Pace>(
-    job: &InOrder<'_, '_, A, P>,
+/// Runs a call ahead of its turn, over the cells as this thread knows them.
+fn run_call<'a, A: Allocator + Copy, P: Pace>(
+    job: &InOrder<'_, 'a, A, P>,
     post: &QueueEnd<'_, '_, A>,
+    runner: &mut Runner<'a, A>,
     call: u32,
     share: &mut SpeculativeRuns<'_, A>,
 ) -> Result<(), NoMemory>
@@ -52,20 +54,18 @@ fn run_call<A: Allocator + Copy, P: Pace>(
     requires share { AreSpeculativeRunsOf job.now.task share.old }
     ensures { OnOk result (AreSpeculativeRunsOf job.now.task share.new) }
 {
-    if !post.news.is_told() {
-        return run_speculatively(job.alloc, &job.task, job.cells, call, share);
-    }
     let view = post.news.view(post.thread, job.cells);
     let from = share.accesses.len();
-    run_speculatively(job.alloc, &job.task, &view, call, share)?;
+    run_speculatively(runner, &job.task, &view, call, share)?;
     view.note(&share.accesses, from);
     Ok(())
 }
 
 /// Runs the calls of a batch, as long as calls are run ahead of their turn. Answers whether the pace stops the thread.
-fn run_calls<A: Allocator + Copy, P: Pace>(
-    job: &InOrder<'_, '_, A, P>,
+fn run_calls<'a, A: Allocator + Copy, P: Pace>(
+    job: &InOrder<'_, 'a, A, P>,
     post: &QueueEnd<'_, '_, A>,
+    runner: &mut Runner<'a, A>,
     nth: usize,
     share: &mut SpeculativeRuns<'_, A>,
 ) -> Result<bool, NoMemory>
@@ -83,7 +83,7 @@ fn run_calls<A: Allocator + Copy, P: Pace>(
         if must_stop_before(job.pace, call) {
             return Ok(true);
         }
-        run_call(job, post, call, share)?;
+        run_call(job, post, runner, call, share)?;
     }
     Ok(false)
 }
@@ -92,6 +92,7 @@ fn run_calls<A: Allocator + Copy, P: Pace>(
 pub(crate) fn run_batch<'a, A: Allocator + Copy, P: Pace>(
     job: &InOrder<'_, 'a, A, P>,
     post: &QueueEnd<'_, '_, A>,
+    runner: &mut Runner<'a, A>,
     nth: usize,
 ) -> Result<BatchRun<'a, A>, NoMemory>
     requires { IsKnown job.now }
@@ -99,7 +100,7 @@ pub(crate) fn run_batch<'a, A: Allocator + Copy, P: Pace>(
 {
     let mut share = open_speculative_runs(job.alloc, job.task, batch_of(job.order.len()))?;
     post.news.begin_batch(post.thread);
-    let stops = run_calls(job, post, nth, &mut share)?;
+    let stops = run_calls(job, post, runner, nth, &mut share)?;
     share.prepared.reverse();
     Ok(BatchRun {
         batch: Batch { nth, share },

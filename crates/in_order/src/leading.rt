@@ -1,21 +1,23 @@
 //! The thread that does the calls in their turn, while others run them ahead.
 
-ghost use Rattle.std.specs.Prelude.{◌≤◌, All, IfOk, IfSome};
+ghost use Rattle.std.specs.Prelude.{◌≡◌, ◌+◌, ◌<◌, ◌≤◌, All, IfOk, IfSome, length};
 ghost use Rattle.in_order.specs.Progress.{IsKnown, IsProgressOf};
 ghost use Rattle.in_order.specs.Queues.{IsQueueEndOf, IsReorderBufferOf};
-ghost use Rattle.in_order.specs.Shares.{AreSpeculativeRunsOf};
+ghost use Rattle.in_order.specs.Shares.{AreSpeculativeRunsOf, IsPreparedOf};
 
 use crate::ahead_of_turn::{BatchRun, batch_of, draw, run_batch};
 use crate::line::{BatchQueue, make_queue_ends};
 use crate::post::QueueEnd;
 use crate::reorder_buffer::{ReorderBuffer, keep, open_reorder_buffer, place, take_in, take_out};
-use crate::speculative_run::SpeculativeRuns;
+use crate::speculative_run::{SpeculativeRun, SpeculativeRuns};
 use crate::straight::{StraightRun, run_straight, run_to};
 use crate::turns::do_next;
 use crate::working::{work, work_all};
 use crate::{InOrder, OrderProgress};
 use news::{NO_BATCHES, News, Tally};
 use pace::Pace;
+use serial::Runner;
+use spec_execution::Access;
 use spec_ledger::NoMemory;
 use std::alloc::Allocator;
 use std::hint::spin_loop;
@@ -26,10 +28,48 @@ use std::thread::{Threads, join};
 /// How often the thread that does the calls looks for a batch that another has drawn, before it runs the calls itself.
 const LOOKS: u32 = 100;
 
-/// Does the calls of a batch by their read-write sets, and runs those again that found other cells, as long as the order is not stopped.
+/// Takes the next call of a batch.
+fn take_next<'a, A: Allocator + Copy, P: Pace>(
+    _job: &InOrder<'_, 'a, A, P>,
+    share: &mut SpeculativeRuns<'a, A>,
+) -> Option<SpeculativeRun<A>>
+    requires { AreSpeculativeRunsOf _job.now.task share.old }
+    ensures next { IfSome result (IsPreparedOf _job.now.task share.new.accesses.items) }
+    ensures share { AreSpeculativeRunsOf _job.now.task share.new }
+{
+    share.prepared.pop()
+}
+
+/// Does a call by its read-write set, or runs it again where it found other cells, and then tells what it changes.
+fn do_and_tell<'a, A: Allocator + Copy, P: Pace>(
+    job: &InOrder<'_, 'a, A, P>,
+    runner: &mut Runner<'a, A>,
+    ran: OrderProgress<A>,
+    news: &News<A>,
+    prepared: SpeculativeRun<A>,
+    accesses: &[Access],
+) -> Result<OrderProgress<A>, NoMemory>
+    requires known { IsKnown job.now }
+    requires ran { IsProgressOf job.now ran }
+    requires more { length ran.receipts.items < length job.now.order.now }
+    requires prepared { IsPreparedOf job.now.task accesses.now prepared }
+    ensures ran { IfOk result (IsProgressOf job.now) }
+    ensures one { IfOk result (λ next. length next.receipts.items ≡ length ran.receipts.items + 1) }
+{
+    let (done, ahead) = (ran.receipts.len(), ran.ahead);
+    let next = do_next(job, ran, Some(prepared), accesses, None, runner)?;
+    if next.ahead == ahead {
+        news.tell(&next.touched, done, &next.cells);
+    }
+    Ok(next)
+}
+
+/// Does the calls of a batch by their read-write sets, and runs those again that found other cells, as long as the order is not stopped. Tells what these change.
 fn do_batch<'a, A: Allocator + Copy, P: Pace>(
     job: &InOrder<'_, 'a, A, P>,
+    runner: &mut Runner<'a, A>,
     mut ran: OrderProgress<A>,
+    news: &News<A>,
     share: &mut SpeculativeRuns<'a, A>,
 ) -> Result<OrderProgress<A>, NoMemory>
     requires known { IsKnown job.now }
@@ -41,17 +81,36 @@ fn do_batch<'a, A: Allocator + Copy, P: Pace>(
         if job.is_stopped.load(Ordering::SeqCst) {
             return Ok(ran);
         }
-        let Some(prepared) = share.prepared.pop() else {
+        let Some(prepared) = take_next(job, share) else {
             return Ok(ran);
         };
-        ran = do_next(job, ran, Some(prepared), &share.accesses, None)?;
+        ran = do_and_tell(job, runner, ran, news, prepared, &share.accesses)?;
     }
     Ok(ran)
+}
+
+/// Runs the next calls straight over the cells, up to a position, and tells what they change.
+fn run_and_tell<'a, A: Allocator + Copy, P: Pace>(
+    job: &InOrder<'_, 'a, A, P>,
+    runner: &mut Runner<'a, A>,
+    ran: OrderProgress<A>,
+    news: &News<A>,
+    end: usize,
+) -> Result<StraightRun<A>, NoMemory>
+    requires known { IsKnown job.now }
+    requires ran { IsProgressOf job.now ran }
+    ensures { IfOk result (λ came. IsProgressOf job.now came.ran) }
+{
+    let done = ran.receipts.len();
+    let came = run_to(job, runner, ran, end)?;
+    news.tell(&came.ran.touched, done, &came.ran.cells);
+    Ok(came)
 }
 
 /// Does a batch that has come, and keeps what is left of it.
 fn do_share<'a, A: Allocator + Copy, P: Pace>(
     job: &InOrder<'_, 'a, A, P>,
+    runner: &mut Runner<'a, A>,
     ran: OrderProgress<A>,
     supply: &mut ReorderBuffer<'a, A>,
     news: &News<A>,
@@ -67,13 +126,13 @@ fn do_share<'a, A: Allocator + Copy, P: Pace>(
 {
     let mut share = share;
     let (done, ahead) = (ran.receipts.len(), ran.ahead);
-    let ran = do_batch(job, ran, &mut share)?;
+    let ran = do_batch(job, runner, ran, news, &mut share)?;
     keep(job, supply, share)?;
     let calls = ran.receipts.len().saturating_sub(done) as u64;
     let ahead = u64::from(ran.ahead.saturating_sub(ahead));
     if tally.note(news, &job.drawn, calls, ahead) {
         job.close();
-        return run_to(job, ran, job.order.len());
+        return run_to(job, runner, ran, job.order.len());
     }
     Ok(StraightRun { ran, stops: false })
 }
@@ -121,6 +180,7 @@ fn draw_here<A: Allocator + Copy, P: Pace>(
 /// is left to draw and the next one does not come, the calls are run here all the same, and whoever runs them too runs them in vain.
 fn lead_on<'a, A: Allocator + Copy, P: Pace>(
     job: &InOrder<'_, 'a, A, P>,
+    runner: &mut Runner<'a, A>,
     ran: OrderProgress<A>,
     supply: &mut ReorderBuffer<'a, A>,
     post: &mut QueueEnd<'_, 'a, A>,
@@ -139,32 +199,33 @@ fn lead_on<'a, A: Allocator + Copy, P: Pace>(
     let nth = position / size;
     let end = nth.saturating_add(1).saturating_mul(size);
     if position % size != 0 {
-        return run_to(job, ran, end);
+        return run_and_tell(job, runner, ran, post.news, end);
     }
     take_in(job, supply, post);
     if let Some(share) = take_out(job, supply, nth) {
-        return do_share(job, ran, supply, post.news, tally, share);
+        return do_share(job, runner, ran, supply, post.news, tally, share);
     }
     if let Some(drawn) = draw_here(job, post.news, tally, nth) {
         if drawn == nth {
-            return run_to(job, ran, end);
+            return run_and_tell(job, runner, ran, post.news, end);
         }
-        let BatchRun { batch, stops } = run_batch(job, post, drawn)?;
+        let BatchRun { batch, stops } = run_batch(job, post, runner, drawn)?;
         place(job, supply, batch);
         return Ok(StraightRun { ran, stops });
     }
     match look(job, supply, post, nth) {
-        Some(share) => do_share(job, ran, supply, post.news, tally, share),
+        Some(share) => do_share(job, runner, ran, supply, post.news, tally, share),
         None => {
             tally.try_again();
-            run_to(job, ran, end)
+            run_and_tell(job, runner, ran, post.news, end)
         }
     }
 }
 
-/// Goes on by a batch, and tells what its calls changed.
+/// Goes on by a batch. Where threads are told from now on, some of the calls that are done are told, too.
 fn lead_on_and_tell<'a, A: Allocator + Copy, P: Pace>(
     job: &InOrder<'_, 'a, A, P>,
+    runner: &mut Runner<'a, A>,
     ran: OrderProgress<A>,
     supply: &mut ReorderBuffer<'a, A>,
     post: &mut QueueEnd<'_, 'a, A>,
@@ -181,9 +242,11 @@ fn lead_on_and_tell<'a, A: Allocator + Copy, P: Pace>(
     let done = ran.receipts.len();
     let was_told = post.news.is_told();
     post.news.go_to(done / batch_of(job.order.len()));
-    let came = lead_on(job, ran, supply, post, tally)?;
-    post.news
-        .tell(&came.ran.touched, done, &came.ran.cells, was_told);
+    let came = lead_on(job, runner, ran, supply, post, tally)?;
+    if !was_told {
+        let from = post.news.first_told(came.ran.receipts.len());
+        post.news.tell(&came.ran.touched, from, &came.ran.cells);
+    }
     Ok(came)
 }
 
@@ -201,13 +264,21 @@ fn commit_in_order<'a, A: Allocator + Copy, P: Pace>(
     let places = job.order.len() / batch_of(job.order.len()) + 1;
     let mut supply = open_reorder_buffer(job, places)?;
     let mut tally = NO_BATCHES;
+    let mut runner = Runner::new(job.alloc);
     let mut came = StraightRun { ran, stops: false };
     for _ in 0..2 * job.order.len() + 2 {
         let is_whole = came.ran.receipts.len() >= job.order.len();
         if is_whole || came.stops || job.is_stopped.load(Ordering::SeqCst) {
             break;
         }
-        came = lead_on_and_tell(job, came.ran, &mut supply, &mut post, &mut tally)?;
+        came = lead_on_and_tell(
+            job,
+            &mut runner,
+            came.ran,
+            &mut supply,
+            &mut post,
+            &mut tally,
+        )?;
     }
     Ok(came.ran)
 }

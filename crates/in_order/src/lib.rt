@@ -25,6 +25,7 @@ use interp::finished::Finished;
 use link::deployed::Deployed as Contract;
 use lock_profile::Touched;
 use pace::Pace;
+use serial::Runner;
 use spec_ledger::{NoMemory, Receipt, Version};
 use std::alloc::Allocator;
 use std::sync::Wait;
@@ -156,7 +157,7 @@ pub fn go_on<'a, A: Allocator + Copy, P: Pace>(
     ensures ran { IfOk result (IsProgressOf job.now) }
     ensures one { IfOk result (λ next. length next.receipts.items ≡ length ran.receipts.items + 1) }
 {
-    do_next(job, ran, None, &[], run)
+    do_next(job, ran, None, &[], run, &mut Runner::new(job.alloc))
 }
 
 /// Does all further calls of the order, one after another, each by running it. A stopped order is completed, too. The pace is told nothing.
@@ -173,8 +174,9 @@ pub fn complete<A: Allocator + Copy, P: Pace>(
     ensures ran { IfOk result (IsProgressOf job.now) }
     ensures whole { IfOk result (λ ran. length ran.receipts.items ≡ length job.now.order.now) }
 {
+    let mut runner = Runner::new(job.alloc);
     for _position in ran.receipts.len()..job.order.len() {
-        ran = do_next(job, ran, None, &[], None)?;
+        ran = do_next(job, ran, None, &[], None, &mut runner)?;
     }
     Ok(ran)
 }
@@ -206,7 +208,8 @@ pub fn run_with<
     ensures errand { F.post errand result.0 }
     ensures ran { IfOk result.1 (IsProgressOf job.now) }
 {
-    let begun = match begin_straight(job, ran, workers) {
+    let mut runner = Runner::new(job.alloc);
+    let begun = match begin_straight(job, &mut runner, ran, workers) {
         Ok(begun) => begun,
         Err(_) => return (errand(), Err(NoMemory)),
     };
@@ -218,5 +221,5 @@ pub fn run_with<
     if threads == 0 {
         return (told, Ok(ran));
     }
-    (told, run_straight(job, ran))
+    (told, run_straight(job, &mut runner, ran))
 }

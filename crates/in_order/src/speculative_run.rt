@@ -10,7 +10,7 @@ ghost use Rattle.in_order.specs.Shares.{IsSpeculativeRun, AreSpeculativeRunsOf, 
 
 use crate::Task;
 use link::deployed::Deployed as Contract;
-use serial::{Executed, Reads, run_over, write_back};
+use serial::{Executed, Reads, Runner, write_back};
 use spec_execution::Access;
 use spec_ledger::NoMemory;
 use std::alloc::Allocator;
@@ -59,9 +59,9 @@ pub(crate) fn open_speculative_runs<'a, A: Allocator + Copy>(
 }
 
 /// Runs a call over a view of the cells, and puts it with its read-write set behind those of the share.
-pub(crate) fn run_speculatively<A: Allocator + Copy, V: Reads>(
-    alloc: A,
-    task: &Task<'_, A>,
+pub(crate) fn run_speculatively<'a, A: Allocator + Copy, V: Reads>(
+    runner: &mut Runner<'a, A>,
+    task: &Task<'a, A>,
     view: &V,
     call: u32,
     share: &mut SpeculativeRuns<'_, A>,
@@ -72,8 +72,7 @@ pub(crate) fn run_speculatively<A: Allocator + Copy, V: Reads>(
 {
     let calls = task.calls;
     let from = share.accesses.len();
-    let executed = run_over(
-        alloc,
+    let executed = runner.run_over(
         task.contracts,
         &calls[call as usize],
         view,

@@ -6,6 +6,7 @@ ghost use Rattle.in_order.specs.Progress.{IsKnown, IsProgressOf};
 use crate::turns::do_next;
 use crate::{InOrder, OrderProgress};
 use pace::{Pace, Step, must_stop_at, threads};
+use serial::Runner;
 use spec_ledger::{NoMemory, Receipt};
 use std::alloc::Allocator;
 use std::sync::atomic::Ordering;
@@ -30,8 +31,9 @@ pub(crate) struct StraightRun<A: Allocator> {
 }
 
 /// Runs the next calls straight over the cells, up to a position, as long as neither the order nor the thread is stopped.
-pub(crate) fn run_to<A: Allocator + Copy, P: Pace>(
-    job: &InOrder<'_, '_, A, P>,
+pub(crate) fn run_to<'a, A: Allocator + Copy, P: Pace>(
+    job: &InOrder<'_, 'a, A, P>,
+    runner: &mut Runner<'a, A>,
     mut ran: OrderProgress<A>,
     end: usize,
 ) -> Result<StraightRun<A>, NoMemory>
@@ -46,21 +48,22 @@ pub(crate) fn run_to<A: Allocator + Copy, P: Pace>(
         {
             return Ok(StraightRun { ran, stops: true });
         }
-        ran = do_next(job, ran, None, &[], None)?;
+        ran = do_next(job, ran, None, &[], None, runner)?;
     }
     Ok(StraightRun { ran, stops: false })
 }
 
 /// Runs all further calls straight over the cells, as long as neither the order nor the thread is stopped.
-pub(crate) fn run_straight<A: Allocator + Copy, P: Pace>(
-    job: &InOrder<'_, '_, A, P>,
+pub(crate) fn run_straight<'a, A: Allocator + Copy, P: Pace>(
+    job: &InOrder<'_, 'a, A, P>,
+    runner: &mut Runner<'a, A>,
     ran: OrderProgress<A>,
 ) -> Result<OrderProgress<A>, NoMemory>
     requires known { IsKnown job.now }
     requires ran { IsProgressOf job.now ran }
     ensures { IfOk result (IsProgressOf job.now) }
 {
-    let came = run_to(job, ran, job.order.len())?;
+    let came = run_to(job, runner, ran, job.order.len())?;
     Ok(came.ran)
 }
 
@@ -82,8 +85,9 @@ pub(crate) struct Begun<A: Allocator> {
 }
 
 /// Runs some calls straight, where there are so many that other threads may be wanted, and reckons by them how many threads are.
-pub(crate) fn begin_straight<A: Allocator + Copy, P: Pace>(
-    job: &InOrder<'_, '_, A, P>,
+pub(crate) fn begin_straight<'a, A: Allocator + Copy, P: Pace>(
+    job: &InOrder<'_, 'a, A, P>,
+    runner: &mut Runner<'a, A>,
     ran: OrderProgress<A>,
     workers: u32,
 ) -> Result<Begun<A>, NoMemory>
@@ -96,7 +100,7 @@ pub(crate) fn begin_straight<A: Allocator + Copy, P: Pace>(
     if workers < 2 || left <= FEW {
         return Ok(Begun { ran, threads: 1 });
     }
-    let StraightRun { ran, stops } = run_to(job, ran, from + FIRST)?;
+    let StraightRun { ran, stops } = run_to(job, runner, ran, from + FIRST)?;
     if stops {
         return Ok(Begun { ran, threads: 0 });
     }

@@ -13,7 +13,7 @@ use crate::speculative_run::{SpeculativeRun, commit_if_valid};
 use crate::{InOrder, OrderProgress};
 use interp::finished::Finished;
 use pace::Pace;
-use serial::{Executed, execute, replay};
+use serial::{Executed, Runner, replay};
 use spec_execution::Access;
 use spec_ledger::NoMemory;
 use std::alloc::Allocator;
@@ -78,6 +78,7 @@ fn execute_one<'a, A: Allocator + Copy, P: Pace>(
     prepared: Option<SpeculativeRun<A>>,
     accesses: &[Access],
     run: Option<&Finished<'a, A>>,
+    runner: &mut Runner<'a, A>,
     cells: &mut Cells<A>,
 ) -> Result<Done<A>, NoMemory>
     requires known { number < length job.now.task.calls.now }
@@ -102,7 +103,7 @@ fn execute_one<'a, A: Allocator + Copy, P: Pace>(
     let task = &job.task;
     let calls = task.calls;
     let call = &calls[number as usize];
-    let executed = execute(job.alloc, task.contracts, call, cells, task.version)?;
+    let executed = runner.execute(task.contracts, call, cells, task.version)?;
     Ok(Done {
         executed,
         ahead: false,
@@ -116,6 +117,7 @@ pub(crate) fn do_next<'a, A: Allocator + Copy, P: Pace>(
     prepared: Option<SpeculativeRun<A>>,
     accesses: &[Access],
     run: Option<&Finished<'a, A>>,
+    runner: &mut Runner<'a, A>,
 ) -> Result<OrderProgress<A>, NoMemory>
     requires known { IsKnown job.now }
     requires ran { IsProgressOf job.now ran }
@@ -132,7 +134,7 @@ pub(crate) fn do_next<'a, A: Allocator + Copy, P: Pace>(
         ahead,
     } = ran;
     let number = job.order[receipts.len()];
-    let done = execute_one(job, number, prepared, accesses, run, &mut cells)?;
+    let done = execute_one(job, number, prepared, accesses, run, runner, &mut cells)?;
     receipts.push(done.executed.receipt)?;
     touched.push(done.executed.touched)?;
     Ok(OrderProgress {

@@ -9,6 +9,7 @@ use crate::ahead_of_turn::{BatchRun, draw, run_batch};
 use crate::line::hand_over;
 use crate::post::QueueEnd;
 use pace::Pace;
+use serial::Runner;
 use std::alloc::Allocator;
 use std::sync::Wait;
 use std::sync::atomic::Ordering;
@@ -29,12 +30,13 @@ pub(crate) fn work<'a, A: Allocator + Copy, P: Pace>(
     requires known { IsKnown job.now }
     requires post { IsQueueEndOf job.now post }
 {
+    let mut runner = Runner::new(job.alloc);
     for _ in 0..job.order.len() {
         post.news.wait(&job.drawn);
         let Some(nth) = draw(job) else {
             return;
         };
-        let Ok(made) = run_batch(job, &post, nth) else {
+        let Ok(made) = run_batch(job, &post, &mut runner, nth) else {
             note_want(job);
             return;
         };

@@ -7,6 +7,7 @@ use Rattle.spec_ledger.specs.declared.TraceStep.TheVariants.{Did, Opened, Kept, 
 use Rattle.spec_ledger.specs.declared.Op.{Op}
 use Rattle.spec_ledger.specs.declared.Reply.{Reply}
 use Rattle.spec_ledger.specs.declared.Outcome.{Outcome}
+use Rattle.spec_ledger.specs.declared.Receipt.{Receipt}
 use Rattle.spec_ledger.specs.declared.Outcome.TheVariants.{Trapped, OutOfFuel}
 use Rattle.spec_modules.specs.Syntax.{Instr}
 use Rattle.spec_execution.specs.Configuration.{Setting, Contract, Seq, End, Val, Code, Free, Label, Frame, Invoke, Config, Running, Trap}
@@ -21,7 +22,7 @@ use Rattle.interp.specs.declared.turns.Status.TheVariants as status
 use Rattle.interp.specs.declared.turns.Turn.{Turn}
 use Rattle.interp.specs.declared.turns.Turn.TheVariants as turn
 use Rattle.interp.specs.Codes.{coded_setting, coded_contract, coded_levels, coded_call}
-use Rattle.interp.specs.FinishedCalls.{Played}
+use Rattle.interp.specs.FinishedCalls.{Played, IsPlayed, receipt_of}
 
 -- the outer level, in which the others were entered
 abbrev pub last_level : Level → List Level → Level
@@ -302,6 +303,16 @@ pub record IsFinishOf (p : Progress) (f : Played) : Type 0 where
   pub trace : f.trace ≡ p.trace
   pub used : f.used ≡ p.used
   pub ended : p.status ≡ status.Ended f.outcome
+
+-- its run, with this outcome
+abbrev pub played_of : Progress → Outcome → Played
+played_of p o = record { setting = p.setting; call = p.call; trace = p.trace; outcome = o; used = p.used }
+
+-- what the call of a machine that has ended came to
+pub record IsReceiptOf (p : Progress) (r : Receipt) : Type 0 where
+  pub ended : p.status ≡ status.Ended r.outcome
+  pub played : IsPlayed (played_of p r.outcome)
+  pub receipt : r ≡ receipt_of (played_of p r.outcome)
 
 abbrev pub IsUnfinished : Status → Type 0
 IsUnfinished (status.Ended o) = ⊥

@@ -169,6 +169,37 @@ pub(crate) fn no_parts<'a, A: Allocator + Copy>(alloc: A, instance: Instance<'a,
     }
 }
 
+// How many items a list holds at most whose room the next call uses. A longer one is given back.
+const MOST_KEPT: usize = 2_048;
+
+// Empties a list, and gives its room back where that is large.
+pub(crate) fn empty_list<T: Drop, A: Allocator>(list: &mut Vec<T, A>)
+    ensures { list.new.items ≡ [] }
+{
+    list.clear();
+    list.shrink_to(MOST_KEPT);
+}
+
+// Leaves nothing open in parts, which are then of this instance. The room of their lists stays.
+pub(crate) fn empty_parts<'a, A: Allocator + Copy>(
+    parts: &mut Parts<'a, A>,
+    instance: Instance<'a, A>,
+)
+    ensures instance { parts.new.instance ≡ instance.entry }
+    ensures code { parts.new.code.now ≡ [] }
+    ensures entries { parts.new.entries.items ≡ [] }
+    ensures depth { parts.new.depth ≡ 0 }
+    ensures stack { parts.new.stack.items ≡ [] }
+    ensures locals { parts.new.locals.items ≡ [] }
+{
+    parts.code = &[];
+    parts.entries.clear();
+    parts.depth = 0;
+    empty_list(&mut parts.stack);
+    empty_list(&mut parts.locals);
+    parts.instance = instance;
+}
+
 // The innermost level is left, and the one around it goes on with this status and this answer.
 #[inline(never)]
 pub(crate) fn leave<'a, A: Allocator + Copy>(

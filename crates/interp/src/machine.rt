@@ -1,18 +1,19 @@
 // A machine: a call that runs over lent contracts, a turn at a time.
-ghost use Rattle.std.specs.Prelude.{◌≡◌, ◌≢◌, ◌≤◌, length, IfOk, MatchResult};
+ghost use Rattle.std.specs.Prelude.{◌≡◌, ◌≢◌, ◌≤◌, length, IfOk, IfErr, OnOk, IfSome, IfNone, MatchResult};
 ghost use Rattle.spec_execution.specs.Run.{Opens, opening};
 ghost use Rattle.interp.specs.Machine.{progress};
-ghost use Rattle.interp.specs.Progress.{NextIs, IsSameCall, WantsMemory, IsTold, IsFree, IsAwaited, HasAnswered, IsFinishOf, IsProgress, IsUnfinished, IsStartOf};
+ghost use Rattle.interp.specs.Progress.{NextIs, IsSameCall, WantsMemory, IsTold, IsFree, IsAwaited, HasAnswered, IsFinishOf, IsReceiptOf, IsProgress, IsUnfinished, IsStartOf};
 ghost use Rattle.interp.specs.Run.{seen, IsKept};
 ghost use Rattle.interp.specs.Turns.{HasTurned};
 ghost use Rattle.link.specs.Parts.{hosts_of};
 ghost use Rattle.instance.specs.Views.{contract_of};
 ghost use Rattle.spec_ledger.specs.declared.Version.TheVariants.{Two};
 ghost use Rattle.interp.specs.Callee.{setting_view};
+ghost use Rattle.interp.specs.declared.start.StartRefusal.{StartRefusal};
 
 use crate::finished::Finished;
-use crate::functions::start_run;
-use crate::levels::no_parts;
+use crate::functions::{give_up, start_run};
+use crate::levels::{empty_list, empty_parts, no_parts};
 use crate::replies::take_answer;
 use crate::run::Run;
 use crate::running::{next_turn, turn_on};
@@ -21,10 +22,10 @@ use crate::turns::{Status, Turn};
 use call::Call;
 use instance::open_instance;
 use interp_state::callee::Callee;
-use interp_state::waiting::prepare;
+use interp_state::waiting::{prepare, prepare_in};
 use laws_soundness::deployed_calls_are_safe;
 use link::deployed::Deployed;
-use spec_ledger::{NoMemory, Outcome, Reply, Version};
+use spec_ledger::{Outcome, Receipt, Reply, Version};
 use std::alloc::Allocator;
 use std::marker::Model;
 
@@ -55,6 +56,83 @@ fn finished<'a, A: Allocator + Copy>(run: Run<'a, A>, outcome: Outcome) -> Finis
         outer: _,
     } = run;
     Finished::of(contracts, call, trace, outcome, used, entered, version)
+}
+
+// The machine of a call that opens with this function of this contract, before its first turn, in the place of another call, whatever has come of it. It is refused
+// nothing but memory.
+fn begin_again<'a, A: Allocator + Copy>(
+    run: &mut Run<'a, A>,
+    contracts: &'a [Deployed<A>],
+    call: &'a Call,
+    deployed: &'a Deployed<A>,
+    func: u32,
+    version: Version,
+) -> Result<(), StartRefusal>
+    requires kept { IsKept run.old }
+    requires opens { opening (setting_view version contracts.now) call.now ≡ Opens (contract_of version call.now.contract deployed.now) func }
+    requires defined { length (hosts_of deployed.now) ≤ func }
+    ensures kept { IsKept run.new }
+    ensures start { OnOk result (IsStartOf (setting_view version contracts.now) call.now (progress (seen run.new))) }
+    ensures refused { IfErr result (λ refusal. refusal ≡ StartRefusal.NoMemory) }
+{
+    deployed_calls_are_safe();
+    deployed.is_linked();
+    let tree = deployed.module();
+    let lent = Callee {
+        number: call.contract(),
+        module: tree,
+        hosts: deployed.hosts(),
+        version,
+    };
+    let instance = open_instance(run.alloc, version, deployed)?;
+    let Ok(entry) = prepare_in(run.alloc, &lent, func, call.args(), &mut run.parts) else {
+        give_up(run);
+        return Err(StartRefusal::NoMemory);
+    };
+    run.contracts = contracts;
+    run.version = version;
+    run.call = call;
+    run.deployed = deployed;
+    run.func = func;
+    empty_list(&mut run.trace);
+    run.used = 0;
+    run.entered = 0;
+    run.status = Status::Running;
+    run.lent = lent;
+    run.argument = None;
+    empty_parts(&mut run.parts, instance);
+    run.waiting = Some(entry);
+    run.asked = 0;
+    run.answer = 0;
+    run.outer.clear();
+    match start_run(run) {
+        Turn::Stepped => Ok(()),
+        Turn::NoMemory => Err(StartRefusal::NoMemory),
+        Turn::Host(_) => unreachable!(),
+        Turn::Enter => unreachable!(),
+        Turn::Leave(_) => unreachable!(),
+        Turn::Done(_) => unreachable!(),
+    }
+}
+
+// What the call has come to, where its run has ended.
+fn receipt_of_run<'a, A: Allocator + Copy>(run: &Run<'a, A>) -> Option<Receipt>
+    requires { IsKept run.now }
+    ensures some { IfSome result (λ receipt. IsReceiptOf (progress (seen run.now)) receipt) }
+    ensures none { IfNone result (IsUnfinished run.now.status) }
+{
+    match run.status {
+        Status::Ended(outcome) => Some(Receipt {
+            outcome,
+            used: run.used,
+            asks: run.entered,
+        }),
+        Status::Running => None,
+        Status::Fallen(_) => None,
+        Status::Asking(_) => None,
+        Status::Closing => None,
+        Status::NoMemory => None,
+    }
 }
 
 /// A call that runs over lent contracts, a turn at a time.
@@ -132,10 +210,18 @@ impl<'a, A: Allocator + Copy> Machine<'a, A> {
             Status::NoMemory => Err(self),
         }
     }
+
+    /// What the call has come to, exactly where Done was answered.
+    pub fn receipt(&self) -> Option<Receipt>
+        ensures some { IfSome result (λ receipt. IsReceiptOf self.now receipt) }
+        ensures none { IfNone result (IsUnfinished self.now.status) }
+    {
+        receipt_of_run(&self.run)
+    }
 }
 
 impl<'a, A: Allocator + Copy> Machine<'a, A> {
-    ghost use Rattle.std.specs.Prelude.{◌≡◌, ◌≤◌, length, IfOk, IfErr};
+    ghost use Rattle.std.specs.Prelude.{◌≡◌, ◌≤◌, length, IfOk, IfErr, OnOk};
     ghost use Rattle.link.specs.Parts.{hosts_of};
     ghost use Rattle.spec_execution.specs.Run.{opening, Opens};
     ghost use Rattle.spec_ledger.specs.declared.Version.TheVariants.{Two};
@@ -143,6 +229,7 @@ impl<'a, A: Allocator + Copy> Machine<'a, A> {
     ghost use Rattle.interp.specs.Callee.{setting_view};
     ghost use Rattle.interp.specs.Progress.{IsStartOf, IsProgress};
     ghost use Rattle.interp.specs.Starting.{IsRefusedFor, HasPlace, wrong_in};
+    ghost use Rattle.interp.specs.declared.start.StartRefusal.{StartRefusal};
 
     /// The machine of a call before its first turn, by the rules of version 2: `start_as` with it.
     ///
@@ -182,16 +269,39 @@ impl<'a, A: Allocator + Copy> Machine<'a, A> {
     {
         match open_call(contracts, call) {
             Ok(Opened { deployed, func }) => {
-                match Machine::begin(alloc, contracts, call, deployed, func, version) {
-                    Ok(machine) => Ok(machine),
-                    Err(NoMemory) => Err(StartRefusal::NoMemory),
-                }
+                Machine::begin(alloc, contracts, call, deployed, func, version)
             }
             Err(refusal) => Err(refusal_of(refusal)),
         }
     }
 
-    // The machine of a call that opens with this function of this contract, before its first turn.
+    /// Starts another call in the place of this one, whatever has come of it, by the rules of a version: it is the machine of that call before its first turn. The
+    /// room of its lists serves again, but for that of long ones.
+    ///
+    /// # Errors
+    ///
+    /// As `start_as`.
+    pub fn start_again(
+        &mut self,
+        contracts: &'a [Deployed<A>],
+        call: &'a Call,
+        version: Version,
+    ) -> Result<(), StartRefusal>
+        ensures start { OnOk result (IsStartOf (setting_view version contracts.now) call.now self.new) }
+        ensures on_run { OnOk result (IsProgress self.new) }
+        ensures refused { IfErr result (λ refusal. IsRefusedFor refusal (opening (setting_view version contracts.now) call.now)) }
+        ensures place { IfErr result (λ refusal. HasPlace (wrong_in (setting_view version contracts.now) call.now) refusal) }
+    {
+        match open_call(contracts, call) {
+            Ok(Opened { deployed, func }) => {
+                begin_again(&mut self.run, contracts, call, deployed, func, version)
+            }
+            Err(refusal) => Err(refusal_of(refusal)),
+        }
+    }
+
+    // The machine of a call that opens with this function of this contract, before its first turn. It is refused nothing but memory. It answers as `start_as`
+    // does, so that the machine is not moved from one answer to the other.
     #[inline(always)]
     fn begin(
         alloc: A,
@@ -200,11 +310,12 @@ impl<'a, A: Allocator + Copy> Machine<'a, A> {
         deployed: &'a Deployed<A>,
         func: u32,
         version: Version,
-    ) -> Result<Machine<'a, A>, NoMemory>
+    ) -> Result<Machine<'a, A>, StartRefusal>
         requires opens { opening (setting_view version contracts.now) call.now ≡ Opens (contract_of version call.now.contract deployed.now) func }
         requires defined { length (hosts_of deployed.now) ≤ func }
         ensures start { IfOk result (λ m. IsStartOf (setting_view version contracts.now) call.now m) }
         ensures on_run { IfOk result (λ m. IsProgress m) }
+        ensures refused { IfErr result (λ refusal. refusal ≡ StartRefusal.NoMemory) }
     {
         deployed_calls_are_safe();
         deployed.is_linked();
@@ -238,7 +349,7 @@ impl<'a, A: Allocator + Copy> Machine<'a, A> {
         };
         match start_run(&mut run) {
             Turn::Stepped => Ok(Machine { run }),
-            Turn::NoMemory => Err(NoMemory),
+            Turn::NoMemory => Err(StartRefusal::NoMemory),
             Turn::Host(_) => unreachable!(),
             Turn::Enter => unreachable!(),
             Turn::Leave(_) => unreachable!(),

@@ -15,7 +15,8 @@ use call::Call;
 use instance::{Refusal, entry_of};
 use link::deployed::Deployed;
 use module_tree::instr::Instr;
-use std::alloc::Allocator;
+use spec_ledger::NoMemory;
+use std::alloc::{AllocError, Allocator};
 use thiserror::Error;
 
 /// Why a call does not start.
@@ -39,6 +40,28 @@ pub enum StartRefusal {
     /// Memory was refused.
     #[error("memory was refused")]
     NoMemory,
+}
+
+impl From<NoMemory> for StartRefusal {
+    ghost use Rattle.std.specs.Prelude.{◌≡◌};
+    ghost use Rattle.interp.specs.declared.start.StartRefusal.{StartRefusal};
+
+    ghost from_gives = { λ _ refusal. refusal ≡ StartRefusal.NoMemory };
+
+    fn from(_error: NoMemory) -> Self {
+        StartRefusal::NoMemory
+    }
+}
+
+impl From<AllocError> for StartRefusal {
+    ghost use Rattle.std.specs.Prelude.{◌≡◌};
+    ghost use Rattle.interp.specs.declared.start.StartRefusal.{StartRefusal};
+
+    ghost from_gives = { λ _ refusal. refusal ≡ StartRefusal.NoMemory };
+
+    fn from(_error: AllocError) -> Self {
+        StartRefusal::NoMemory
+    }
 }
 
 // The refusal of a call that does not open.

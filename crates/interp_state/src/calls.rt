@@ -69,7 +69,7 @@ pub fn new_locals<A: Allocator + Copy>(
 
 // The same in an empty list that has room for them.
 #[inline(always)]
-fn fill<A: Allocator + Copy>(
+pub(crate) fn fill<A: Allocator + Copy>(
     room: Vec<Value, A>,
     args: &[Value],
     declared: &[ValType],
@@ -94,7 +94,7 @@ fn fill<A: Allocator + Copy>(
 
 // An empty list with room for so many, in the room of a call that was left, where there is one that has it.
 #[inline(always)]
-fn take_room<A: Allocator + Copy>(
+pub(crate) fn take_room<A: Allocator + Copy>(
     alloc: A,
     spare: &mut Vec<Vec<Value, A>, A>,
     count: usize,

@@ -7,7 +7,7 @@ ghost use Rattle.interp_state.specs.Waiting.{IsEntry, IsPrepared, HasPlace, HasE
 
 use crate::blocks::settle;
 use crate::callee::Callee;
-use crate::calls::new_locals;
+use crate::calls::{fill, new_locals, take_room};
 use crate::parts::{Entry, Kind, Parts};
 use module_tree::instr::Instr;
 use std::alloc::{AllocError, Allocator};
@@ -52,6 +52,38 @@ pub fn prepare<'a, A: Allocator + Copy>(
         locals,
         body: &function.body,
         entries: Vec::with_capacity(alloc, 1)?,
+    })
+}
+
+/// The same, in the room of parts that are not needed any more: of a list of locals that was left, and of what was open. Their instance stays.
+pub fn prepare_in<'a, A: Allocator + Copy>(
+    alloc: A,
+    lent: &Callee<'a, A>,
+    func: u32,
+    args: &[Value],
+    parts: &mut Parts<'a, A>,
+) -> Result<Waiting<'a, A>, AllocError>
+    requires entry { IsEntry (contract_of lent.now) func args.now }
+    requires defined { length lent.now.hosts.now ≤ func }
+    ensures prepared { IfOk result (λ w. IsPrepared (contract_of lent.now) args.now w) }
+    ensures place { IfOk result (λ w. HasPlace w) }
+    ensures same { IfOk result (λ w. w.func ≡ func) }
+    ensures instance { parts.new.instance ≡ parts.old.instance }
+{
+    let module = lent.module;
+    let function = &module.funcs[func as usize - lent.hosts.len()];
+    let form = &module.types[function.type_index as usize];
+    let count = args.len() + function.locals.len();
+    let room = take_room(alloc, &mut parts.spare, count)?;
+    let mut entries = mem::replace(&mut parts.entries, Vec::new(alloc));
+    entries.clear();
+    entries.reserve_exact(1)?;
+    Ok(Waiting {
+        func,
+        arity: form.results.len(),
+        locals: fill(room, args, &function.locals),
+        body: &function.body,
+        entries,
     })
 }
 

@@ -78,7 +78,9 @@ impl<A: Allocator + Copy> Known<A> {
     /// Forgets all cells.
     pub(crate) fn clear(&self) {
         for slot in &self.slots {
-            slot.name.store(0, Ordering::SeqCst);
+            if !slot.is_free() {
+                slot.name.store(0, Ordering::SeqCst);
+            }
         }
     }
 

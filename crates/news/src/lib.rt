@@ -1,4 +1,4 @@
-//! What threads that run calls ahead of their turn are told of the calls that were done meanwhile, how far ahead they run, and when either pays. All of it is policy: a
+//! What threads that run calls ahead of their turn are told of what other calls left meanwhile, how far ahead they run, and when either pays. All of it is policy: a
 //! call may be run over any cells, since in its turn it is run again where it found others than there are. So no clause says what is told, nor how new it is.
 #![tactic(auto)]
 
@@ -30,7 +30,7 @@ const BEFORE: usize = 1_024;
 /// How many cells are known that the calls of one batch left: four of each of 32 calls.
 const OWN: usize = 128;
 
-/// What threads are told of the calls that were done, and what each knows beside that.
+/// What threads are told of what calls left, and what each knows beside that.
 #[derive(Drop)]
 pub struct News<A: Allocator = Global> {
     /// The cells that the calls left.
@@ -107,36 +107,33 @@ impl<A: Allocator + Copy> News<A> {
         }
     }
 
-    /// The thread of this number begins another batch: what the calls of its last one left is forgotten, where it was noted.
+    /// The thread of this number begins another batch: what the calls of its last one left is forgotten.
     pub fn begin_batch(&self, thread: usize) {
-        if !self.is_told() {
-            return;
-        }
         if let Some(own) = self.own.get(thread) {
             own.clear();
         }
+    }
+
+    /// The position from which on calls are told where threads are told from now on, and so many are done.
+    pub fn first_told(&self, done: usize) -> usize {
+        done.saturating_sub(BEFORE)
     }
 
     /// The cells as the thread of this number knows them, over those before the first call.
     pub fn view<'s>(&'s self, thread: usize, base: &'s Cells<A>) -> View<'s, A> {
         View {
             own: self.own.get(thread),
-            left: &self.left,
+            left: self.is_told().then_some(&self.left),
             base,
         }
     }
 
-    /// Where threads are told, tells what the calls changed that were done from a position on; the cells are those after them. Where they were not told before, some earlier calls are told, too.
-    pub fn tell(&self, touched: &[Touched<A>], from: usize, cells: &Cells<A>, was_told: bool) {
+    /// Where threads are told, tells what the calls changed that were done from a position on; the cells are those after them. (What a call changes that is run ahead, its thread tells.)
+    pub fn tell(&self, touched: &[Touched<A>], from: usize, cells: &Cells<A>) {
         if !self.is_told() {
             return;
         }
-        let first = if was_told {
-            from
-        } else {
-            from.saturating_sub(BEFORE)
-        };
-        for position in first..touched.len() {
+        for position in from..touched.len() {
             for held in touched[position].lock_modes() {
                 if !matches!(held.mode, Mode::Read) {
                     self.left.set(held.lock, cells.get(held.lock));

@@ -9,11 +9,12 @@ use spec_ledger::{CellKey, Kind, Lock, Op};
 use std::alloc::{Allocator, Global};
 use storage::{Cells, counter_lock, next_cell};
 
-/// The cells as a thread knows them: what the calls before in its batch left, else what those left that were done, else what there was before the first call.
+/// The cells as a thread knows them: what the calls before in its batch left, else what threads were told that others left, else what there was before the first call.
 #[derive(Clone, Copy)]
 pub struct View<'s, A: Allocator = Global> {
     pub(crate) own: Option<&'s Known<A>>,
-    pub(crate) left: &'s Known<A>,
+    /// What threads are told, where they are.
+    pub(crate) left: Option<&'s Known<A>>,
     pub(crate) base: &'s Cells<A>,
 }
 
@@ -25,22 +26,29 @@ impl<A: Allocator + Copy> View<'_, A> {
                 return Some(cell);
             }
         }
-        self.left.get(lock)
+        self.left?.get(lock)
+    }
+
+    /// Takes note of what a call of the batch leaves at a lock, and tells it where threads are told: its turn may show that it left another cell, and then that one is told, too.
+    fn put(&self, lock: Lock, cell: Option<u64>) {
+        if let Some(own) = self.own {
+            own.set(lock, cell);
+        }
+        if let Some(left) = self.left {
+            left.set(lock, cell);
+        }
     }
 
     /// Takes note of what a call of the batch leaves: of these accesses, those from a place on.
     pub fn note(&self, accesses: &[Access], from: usize) {
-        let Some(own) = self.own else {
-            return;
-        };
         for at in from..accesses.len() {
             match accesses[at] {
                 Access::Read(_, _) => (),
-                Access::Replaced(lock, _, later) => own.set(lock, later),
+                Access::Replaced(lock, _, later) => self.put(lock, later),
                 Access::Added(place, amount) => {
                     let lock = counter_lock(place);
                     let op = Op::Add(place, amount);
-                    own.set(lock, next_cell(op, self.read(lock)));
+                    self.put(lock, next_cell(op, self.read(lock)));
                 }
             }
         }

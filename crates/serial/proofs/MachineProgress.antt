@@ -7,11 +7,11 @@ use Rattle.spec_ledger.specs.declared.Outcome.{Outcome}
 use Rattle.interp.specs.declared.turns.Status.{Status}
 use Rattle.interp.specs.declared.turns.Status.TheVariants as status
 use Rattle.interp.specs.declared.turns.Turn.TheVariants as turn
-use Rattle.interp.specs.Progress.{Progress, IsProgress, IsProgressAt, IsSameCall, IsFree, GoesOn, mark_of, with_inner}
+use Rattle.interp.specs.Progress.{Progress, IsProgress, IsProgressAt, IsSameCall, IsFree, IsUnfinished, GoesOn, mark_of, with_inner}
 use Rattle.interp.specs.Turns.{AreSteps, none, one_more, HasTurned}
 use Rattle.serial.specs.MachineProgress.{HasGone, HasAskedFor, HasEntered, HasLeft, HasEnded, HasLacked, IsEnded}
 
-same_joined : (p m q : Progress) → IsSameCall p m → IsSameCall m q → IsSameCall p q
+pub same_joined : (p m q : Progress) → IsSameCall p m → IsSameCall m q → IsSameCall p q
 same_joined p m q g h = record {
   setting = h.setting ∙ g.setting;
   call = h.call ∙ g.call;
@@ -56,6 +56,14 @@ free_of (status.Asking op) h = absurd h
 free_of status.Closing h = absurd h
 free_of (status.Ended o) h = absurd h
 free_of status.NoMemory h = absurd h
+
+pub not_unfinished : (x : Status) → IsEnded x → IsUnfinished x → ⊥
+not_unfinished status.Running e u = e
+not_unfinished (status.Fallen t) e u = e
+not_unfinished (status.Asking op) e u = e
+not_unfinished status.Closing e u = e
+not_unfinished (status.Ended o) e u = u
+not_unfinished status.NoMemory e u = e
 
 pub asked_for : (p : Progress) (op : Op) (q : Progress) → HasTurned p (turn.Host op) q → IsProgress q → HasAskedFor p op q
 asked_for p op q h on =

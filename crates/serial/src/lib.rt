@@ -13,12 +13,13 @@ mod over_view_playing;
 mod playing;
 mod positions;
 mod read_write_set;
+mod runner;
 mod steps;
 mod storage_loop;
 mod touches;
 mod turn_loop;
 
-ghost use Rattle.std.specs.Prelude.{◌≡◌, ◌<◌, ◌↔◌, IfOk, OnErr, IfSome, IfNone, IsSome, length};
+ghost use Rattle.std.specs.Prelude.{◌≡◌, ◌<◌, ◌^◌, ◌↔◌, [], IfOk, OnErr, IfSome, IfNone, IsSome, length};
 ghost use Rattle.std.specs.List.{All};
 ghost use Rattle.std.specs.FinMap as finite;
 ghost use Rattle.spec_ledger.specs.Cells.{AreCells};
@@ -27,6 +28,8 @@ ghost use Rattle.storage.specs.Counts.{AreUnsettled, Store, closed_all};
 ghost use Rattle.spec_execution.specs.Exec.{Executes};
 ghost use Rattle.spec_execution.specs.Serial.{Serial};
 ghost use Rattle.interp.specs.Callee.{setting_view};
+ghost use Rattle.interp.specs.FinishedCalls.{IsPlayed, Played, receipt_of};
+ghost use Rattle.interp.specs.Progress.{IsFree};
 ghost use Rattle.serial.specs.Playing.{AreDone};
 ghost use Rattle.serial.specs.Positions.{results_of};
 
@@ -34,18 +37,22 @@ use crate::again::act_again;
 pub use crate::beginning::{Begun, begin};
 pub use crate::blocks::{build_block, run, run_as};
 pub use crate::locks::touched_by;
+use crate::locks::touched_in;
 pub use crate::over_view::{Reads, run_over};
-use crate::playing::play;
+use crate::playing::{OverCells, begin_in, play, run_in};
 pub use crate::read_write_set::write_back;
+pub use crate::runner::Runner;
 pub use crate::storage_loop::{Storage, play_over};
 pub use crate::turn_loop::{HostRequest, next_request};
 use call::Call;
 use interp::finished::Finished;
+use interp::machine::Machine;
 use link::deployed::Deployed as Contract;
-use lock_profile::Touched;
+use lock_profile::{Held, Touched};
 pub use positions::positions_of;
-use spec_ledger::{Inverse, NoMemory, Receipt, Version};
+use spec_ledger::{Inverse, NoMemory, Receipt, TraceStep, Version};
 use std::alloc::{Allocator, Global};
+use std::mem;
 use storage::{Cells, end_all, end_alone, returned};
 
 /// What calls came to that ran one after another.
@@ -68,28 +75,130 @@ pub struct Executed<A: Allocator = Global> {
     pub touched: Touched<A>,
 }
 
-/// Ends a run whose operations were done on the cells: they stand if it returned, and else are taken back. After a refusal of
-/// memory they are taken back.
+/// Ends a run of this receipt and this trace, whose operations were done on the cells: they stand if it returned, and else are taken back. After a refusal of
+/// memory they are taken back. The locks are looked for in the room of the last list.
 fn conclude<A: Allocator + Copy>(
     alloc: A,
-    finished: &Finished<'_, A>,
+    receipt: Receipt,
+    trace: &[TraceStep],
     cells: &mut Cells<A>,
-    inverses: Vec<Inverse, A>,
+    inverses: &mut Vec<Inverse, A>,
+    asked: &mut Vec<Held, A>,
 ) -> Result<Executed<A>, NoMemory>
-    requires unsettled { AreUnsettled inverses.items cells.old.unsettled }
-    requires alone { closed_all inverses.items cells.old.unsettled ≡ finite.empty }
-    ensures executed { IfOk result (λ e. (start : Store) → AreDone start finished.now.trace cells.old inverses.items → start.unsettled ≡ finite.empty → AreCells start.cells → Executes finished.now.setting finished.now.call start.cells cells.new.cells e.receipt e.touched) }
-    ensures err { OnErr result (cells.new.cells ≡ back_all inverses.items cells.old.cells) }
-    ensures unsettled { cells.new.unsettled ≡ closed_all inverses.items cells.old.unsettled }
+    requires unsettled { AreUnsettled inverses.old.items cells.old.unsettled }
+    requires alone { closed_all inverses.old.items cells.old.unsettled ≡ finite.empty }
+    ensures executed { IfOk result (λ e. (played : Played) → IsPlayed played → receipt ≡ receipt_of played → trace.now ≡ played.trace → (start : Store) → AreDone start played.trace cells.old inverses.old.items → start.unsettled ≡ finite.empty → AreCells start.cells → Executes played.setting played.call start.cells cells.new.cells e.receipt e.touched) }
+    ensures err { OnErr result (cells.new.cells ≡ back_all inverses.old.items cells.old.cells) }
+    ensures unsettled { cells.new.unsettled ≡ finite.empty }
 {
-    finished.is_played();
-    let receipt = finished.receipt();
-    let Ok(touched) = touched_by(alloc, finished.trace()) else {
-        end_all(cells, inverses, false);
+    let Ok(touched) = touched_in(alloc, asked, trace) else {
+        end_alone(cells, inverses, false);
         return Err(NoMemory);
     };
     end_alone(cells, inverses, returned(receipt.outcome));
     Ok(Executed { receipt, touched })
+}
+
+/// Runs a call over the cells, by the rules of this version, on a machine of its own. Unless it returned they are as before.
+fn execute_anew<A: Allocator + Copy>(
+    alloc: A,
+    contracts: &[Contract<A>],
+    call: &Call,
+    over: &mut OverCells<A>,
+    version: Version,
+) -> Result<Executed<A>, NoMemory>
+    requires { over.old.cells.unsettled ≡ finite.empty }
+    ensures executed { IfOk result (λ e. Executes (setting_view version contracts.now) call.now over.old.cells.cells over.new.cells.cells e.receipt e.touched) }
+    ensures settled { over.new.cells.unsettled ≡ finite.empty }
+    ensures err { OnErr result (over.new.cells ≡ over.old.cells) }
+{
+    over.cells.use_invariant();
+    let finished = play(alloc, contracts, call, over, version)?;
+    finished.is_played();
+    conclude(
+        alloc,
+        finished.receipt(),
+        finished.trace(),
+        &mut over.cells,
+        &mut over.inverses,
+        &mut over.asked,
+    )
+}
+
+/// Runs a call that a machine has begun over the cells. Unless it returned they are as before.
+fn execute_begun<'a, A: Allocator + Copy>(
+    alloc: A,
+    machine: &mut Machine<'a, A>,
+    over: &mut OverCells<A>,
+) -> Result<Executed<A>, NoMemory>
+    requires free { IsFree machine.old.status }
+    requires first { machine.old.trace ≡ [] }
+    requires limit { machine.old.call.fuel < 2 ^ 64 }
+    requires settled { over.old.cells.unsettled ≡ finite.empty }
+    ensures executed { IfOk result (λ e. Executes machine.old.setting machine.old.call over.old.cells.cells over.new.cells.cells e.receipt e.touched) }
+    ensures settled { over.new.cells.unsettled ≡ finite.empty }
+    ensures err { OnErr result (over.new.cells ≡ over.old.cells) }
+{
+    over.cells.use_invariant();
+    run_in(machine, over)?;
+    match machine.receipt() {
+        Some(receipt) => conclude(
+            alloc,
+            receipt,
+            machine.trace(),
+            &mut over.cells,
+            &mut over.inverses,
+            &mut over.asked,
+        ),
+        None => unreachable!(),
+    }
+}
+
+/// Runs a call over the cells, by the rules of this version, on the machine of the call before. Where it has no fuel, or does not begin there, it runs on a
+/// machine of its own. Unless it returned the cells are as before.
+fn execute_over<'a, A: Allocator + Copy>(
+    alloc: A,
+    contracts: &'a [Contract<A>],
+    call: &'a Call,
+    machine: &mut Option<Machine<'a, A>>,
+    over: &mut OverCells<A>,
+    version: Version,
+) -> Result<Executed<A>, NoMemory>
+    requires { over.old.cells.unsettled ≡ finite.empty }
+    ensures executed { IfOk result (λ e. Executes (setting_view version contracts.now) call.now over.old.cells.cells over.new.cells.cells e.receipt e.touched) }
+    ensures settled { over.new.cells.unsettled ≡ finite.empty }
+    ensures err { OnErr result (over.new.cells ≡ over.old.cells) }
+{
+    if call.fuel() == 0 {
+        return execute_anew(alloc, contracts, call, over, version);
+    }
+    let Ok(()) = begin_in(alloc, contracts, call, machine, version) else {
+        return execute_anew(alloc, contracts, call, over, version);
+    };
+    match machine {
+        Some(begun) => execute_begun(alloc, begun, over),
+        None => unreachable!(),
+    }
+}
+
+/// The run of a call alone over the cells, by the rules of this version. The cells are as before.
+fn run_alone_over<'a, A: Allocator + Copy>(
+    alloc: A,
+    contracts: &'a [Contract<A>],
+    call: &'a Call,
+    over: &mut OverCells<A>,
+    version: Version,
+) -> Result<Finished<'a, A>, NoMemory>
+    requires { over.old.cells.unsettled ≡ finite.empty }
+    ensures contracts { IfOk result (λ finished. finished.setting ≡ setting_view version contracts.now) }
+    ensures call { IfOk result (λ finished. finished.call ≡ call.now) }
+    ensures replies { IfOk result (λ finished. GetsReplies finished.trace over.old.cells.cells) }
+    ensures cells { over.new.cells ≡ over.old.cells }
+{
+    over.cells.use_invariant();
+    let finished = play(alloc, contracts, call, over, version)?;
+    end_alone(&mut over.cells, &mut over.inverses, false);
+    Ok(finished)
 }
 
 /// Runs a call over the cells, by the rules of this version. Unless it returned they are as before.
@@ -109,9 +218,7 @@ pub fn execute<A: Allocator + Copy>(
     ensures settled { cells.new.unsettled ≡ finite.empty }
     ensures err { OnErr result (cells.new ≡ cells.old) }
 {
-    cells.use_invariant();
-    let (finished, inverses) = play(alloc, contracts, call, cells, version)?;
-    conclude(alloc, &finished, cells, inverses)
+    Runner::new(alloc).execute(contracts, call, cells, version)
 }
 
 /// The run of a call alone over the cells, by the rules of this version. The cells are as before.
@@ -132,10 +239,16 @@ pub fn run_alone<'a, A: Allocator + Copy>(
     ensures replies { IfOk result (λ finished. GetsReplies finished.trace cells.old.cells) }
     ensures cells { cells.new ≡ cells.old }
 {
-    cells.use_invariant();
-    let (finished, done) = play(alloc, contracts, call, cells, version)?;
-    end_all(cells, done, false);
-    Ok(finished)
+    let mut over = OverCells::of(alloc, mem::replace(cells, Cells::new(alloc)));
+    let finished = run_alone_over(alloc, contracts, call, &mut over, version);
+    let OverCells {
+        cells: now,
+        inverses: _,
+        marks: _,
+        asked: _,
+    } = over;
+    *cells = now;
+    finished
 }
 
 /// Executes a call by a run of it that was made elsewhere, where each reply of the run is the one of these cells. None
@@ -157,9 +270,21 @@ pub fn replay<A: Allocator + Copy>(
     ensures err { OnErr result (cells.new ≡ cells.old) }
 {
     cells.use_invariant();
+    finished.is_played();
     let mut inverses = Vec::new(alloc);
     match act_again(alloc, cells, &mut inverses, finished.trace()) {
-        Ok(true) => Ok(Some(conclude(alloc, finished, cells, inverses)?)),
+        Ok(true) => {
+            let mut asked = Vec::new(alloc);
+            let executed = conclude(
+                alloc,
+                finished.receipt(),
+                finished.trace(),
+                cells,
+                &mut inverses,
+                &mut asked,
+            )?;
+            Ok(Some(executed))
+        }
         Ok(false) => {
             end_all(cells, inverses, false);
             Ok(None)
@@ -178,11 +303,11 @@ pub fn replay<A: Allocator + Copy>(
 /// # Errors
 ///
 /// Memory was refused.
-pub fn serial_core<A: Allocator + Copy>(
+pub fn serial_core<'a, A: Allocator + Copy>(
     alloc: A,
-    contracts: &[Contract<A>],
+    contracts: &'a [Contract<A>],
     cells: &Cells<A>,
-    calls: &[Call],
+    calls: &'a [Call],
     order: &[u32],
     version: Version,
 ) -> Result<Core<A>, NoMemory>
@@ -195,14 +320,9 @@ pub fn serial_core<A: Allocator + Copy>(
     let mut receipts = Vec::new(alloc);
     let mut touched = Vec::new(alloc);
     let mut current = cells.copy(alloc)?;
+    let mut runner = Runner::new(alloc);
     for number in order {
-        let executed = execute(
-            alloc,
-            contracts,
-            &calls[*number as usize],
-            &mut current,
-            version,
-        )?;
+        let executed = runner.execute(contracts, &calls[*number as usize], &mut current, version)?;
         receipts.push(executed.receipt)?;
         touched.push(executed.touched)?;
     }

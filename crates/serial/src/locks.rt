@@ -7,6 +7,7 @@ ghost use Rattle.spec_ledger.specs.Modes.{touched};
 ghost use Rattle.lock_profile.specs.Groups.{pair_of, pairs};
 ghost use Rattle.serial.specs.Asking.{DoNotFall, DoNotFallFrom, ask_of, asked_all, asked_for, asks, asks_with, modes_in, with_last};
 
+use crate::playing::empty_list;
 use abstract_locks::join_to;
 use lock_profile::{Held, Touched};
 use spec_ledger::{Lock, NoMemory, Op, TraceStep};
@@ -35,15 +36,18 @@ fn ask_at<A: Allocator + Copy>(asked: &mut Vec<Held, A>, step: TraceStep) -> Res
     }
 }
 
-/// What the operations of a trace ask for, first to last.
-fn asks_of<A: Allocator + Copy>(alloc: A, trace: &[TraceStep]) -> Result<Vec<Held, A>, NoMemory>
-    ensures { IfOk result (λ asked. pairs asked.items ≡ asks trace.now) }
+/// Fills the list with what the operations of a trace ask for, first to last, in place of what it holds.
+fn ask_all<A: Allocator + Copy>(
+    asked: &mut Vec<Held, A>,
+    trace: &[TraceStep],
+) -> Result<(), NoMemory>
+    ensures { OnOk result (pairs asked.new.items ≡ asks trace.now) }
 {
-    let mut asked = Vec::new(alloc);
+    empty_list(asked);
     for step in trace {
-        ask_at(&mut asked, *step)?;
+        ask_at(asked, *step)?;
     }
-    Ok(asked)
+    Ok(())
 }
 
 fn is_same_lock(a: Lock, b: Lock) -> bool
@@ -130,8 +134,20 @@ pub fn touched_by<A: Allocator + Copy>(
 ) -> Result<Touched<A>, NoMemory>
     ensures { IfOk result (λ locks. locks ≡ touched trace.now) }
 {
-    let mut asked = asks_of(alloc, trace)?;
+    let mut asked = Vec::new(alloc);
+    touched_in(alloc, &mut asked, trace)
+}
+
+/// The same, in the room of a list. What it holds before and after says nothing.
+pub(crate) fn touched_in<A: Allocator + Copy>(
+    alloc: A,
+    asked: &mut Vec<Held, A>,
+    trace: &[TraceStep],
+) -> Result<Touched<A>, NoMemory>
+    ensures { IfOk result (λ locks. locks ≡ touched trace.now) }
+{
+    ask_all(asked, trace)?;
     asked.sort_by_key(|one| one.lock)?;
-    let held = joined(alloc, &asked)?;
+    let held = joined(alloc, asked.as_slice())?;
     Ok(map_of(held))
 }

@@ -2,19 +2,21 @@
 //! it found and leaves at each lock that it asked for (Dickerson, Gazzillo, Herlihy, Koskinen, "Adding Concurrency to Smart Contracts", PODC 2017,
 //! section 4: a miner runs calls speculatively).
 
-ghost use Rattle.std.specs.Prelude.{◌≡◌, ◌++◌, ℕ, All, IfOk, OnOk, Option};
+ghost use Rattle.std.specs.Prelude.{◌≡◌, ◌<◌, ◌^◌, ◌++◌, [], ℕ, All, IfOk, OnOk, Option};
 ghost use Rattle.std.specs.FinMap.{get};
 ghost use Rattle.spec_ledger.specs.declared.Lock.{Lock};
 ghost use Rattle.spec_execution.specs.ReadWriteSets.{IsReadWriteSet};
 ghost use Rattle.interp.specs.Callee.{setting_view};
+ghost use Rattle.interp.specs.Progress.{IsFree};
 ghost use Rattle.serial.specs.Behind.{behind};
 ghost use Rattle.serial.specs.FoundCells.{IsFoundBy};
 ghost use Rattle.serial.specs.Touches.{AreAccessesAt, IsCellAt};
 
 use crate::Executed;
 use crate::listing::list;
-use crate::over_view_playing::play;
+use crate::over_view_playing::{play, play_begun};
 use call::Call;
+use interp::machine::Machine;
 use link::deployed::Deployed as Contract;
 use spec_execution::{Access, an_execution_has_a_read_write_set};
 use spec_ledger::{Lock, NoMemory, Version};
@@ -68,4 +70,30 @@ pub fn run_over<A: Allocator + Copy, V: Reads>(
     let receipt = finished.receipt();
     let touched = list(alloc, touches, returned(receipt.outcome), accesses)?;
     Ok(Executed { receipt, touched })
+}
+
+/// Runs a call that a machine has begun over a view, and puts its read-write set behind the accesses that are there.
+pub(crate) fn run_begun<'a, A: Allocator + Copy, V: Reads>(
+    alloc: A,
+    machine: &mut Machine<'a, A>,
+    view: &V,
+    accesses: &mut Vec<Access, A>,
+) -> Result<Executed<A>, NoMemory>
+    requires free { IsFree machine.old.status }
+    requires first { machine.old.trace ≡ [] }
+    requires limit { machine.old.call.fuel < 2 ^ 64 }
+    ensures read_write_set { IfOk result (λ e. IsReadWriteSet machine.old.setting machine.old.call (behind accesses.old.items accesses.new.items) e.receipt e.touched) }
+    ensures told { IfOk result (λ e. AreAccessesAt e.touched (behind accesses.old.items accesses.new.items)) }
+    ensures read { IfOk result (λ e. All (IsFoundBy (V.may_read view.now)) (behind accesses.old.items accesses.new.items)) }
+    ensures accesses { OnOk result (accesses.new.items ≡ accesses.old.items ++ behind accesses.old.items accesses.new.items) }
+{
+    an_execution_has_a_read_write_set();
+    let touches = play_begun(alloc, machine, view)?;
+    match machine.receipt() {
+        Some(receipt) => {
+            let touched = list(alloc, touches, returned(receipt.outcome), accesses)?;
+            Ok(Executed { receipt, touched })
+        }
+        None => unreachable!(),
+    }
 }

@@ -1,13 +1,16 @@
 // A call that runs, and touches cells.
-ghost use Rattle.std.specs.Prelude.{◌≡◌, IfOk};
+ghost use Rattle.std.specs.Prelude.{◌≡◌, ◌<◌, ◌^◌, [], IfOk, OnOk};
 ghost use Rattle.interp.specs.Callee.{setting_view};
-ghost use Rattle.serial.specs.Touches.{AreFoundBy, AreTouchesOf, IsPlayedBeside};
+ghost use Rattle.interp.specs.Progress.{IsFree, IsSameCall};
+ghost use Rattle.serial.specs.MachineProgress.{IsEnded};
+ghost use Rattle.serial.specs.Touches.{AreFoundBy, AreTouchesOf, IsPlayedBeside, WereTouchedBy};
 
 use crate::over_view::Reads;
+use crate::storage_loop::{Storage, play_over, run_on};
 use crate::touches::{Touch, act, leave};
-use crate::{Storage, play_over};
 use call::Call;
 use interp::finished::Finished;
+use interp::machine::Machine;
 use link::deployed::Deployed as Contract;
 use spec_ledger::{Inverse, Lock, NoMemory, Op, Reply, Version};
 use std::alloc::Allocator;
@@ -80,4 +83,37 @@ pub(crate) fn play<'a, A: Allocator + Copy, V: Reads>(
         marks: _,
     } = storage;
     Ok((finished, touches))
+}
+
+/// Runs a call that a machine has begun over a view, and answers what it touched.
+pub(crate) fn play_begun<'a, A: Allocator + Copy, V: Reads>(
+    alloc: A,
+    machine: &mut Machine<'a, A>,
+    view: &V,
+) -> Result<BTreeMap<Lock, Touch, A>, NoMemory>
+    requires free { IsFree machine.old.status }
+    requires first { machine.old.trace ≡ [] }
+    requires limit { machine.old.call.fuel < 2 ^ 64 }
+    ensures same { OnOk result (IsSameCall machine.old machine.new) }
+    ensures ended { OnOk result (IsEnded machine.new.status) }
+    ensures touched { IfOk result (λ touches. WereTouchedBy machine.new.trace touches.entries) }
+    ensures read { IfOk result (λ touches. AreFoundBy (V.may_read view.now) touches.entries) }
+{
+    let touches = BTreeMap::new(alloc);
+    let inverses = Vec::new(alloc);
+    let marks = Vec::new(alloc);
+    let mut storage = OverView {
+        view,
+        touches,
+        inverses,
+        marks,
+    };
+    run_on(machine, &mut storage)?;
+    let OverView {
+        view: _,
+        touches,
+        inverses: _,
+        marks: _,
+    } = storage;
+    Ok(touches)
 }

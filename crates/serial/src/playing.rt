@@ -1,26 +1,56 @@
 // A call that runs over cells, which answer its operations.
-ghost use Rattle.std.specs.Prelude.{◌≡◌, IfOk, OnErr};
+ghost use Rattle.std.specs.Prelude.{◌≡◌, ◌<◌, ◌^◌, [], IfOk, IfSome, IsSome, OnErr, OnOk};
 ghost use Rattle.std.specs.FinMap as finite;
 ghost use Rattle.interp.specs.Callee.{setting_view};
+ghost use Rattle.interp.specs.Progress.{IsFree, IsSameCall, IsStartOf};
+ghost use Rattle.serial.specs.MachineProgress.{IsEnded};
 ghost use Rattle.serial.specs.Playing.{AreDone, AreDoneInLevels, IsPlayedOver};
 
 use crate::steps::{act, leave};
-use crate::storage_loop::{Storage, play_over};
+use crate::storage_loop::{Storage, play_over, run_on};
 use call::Call;
 use interp::finished::Finished;
+use interp::machine::Machine;
+use interp::start::StartRefusal;
 use link::deployed::Deployed as Contract;
+use lock_profile::Held;
 use spec_ledger::{Inverse, NoMemory, Op, Reply, Version};
 use std::alloc::Allocator;
-use std::mem;
-use storage::{Cells, end_all};
+use storage::{Cells, take_back_to};
 
-/// Cells that a call runs over, with the inverses of what it did, first to last. The marks are how many inverses there were where each open level was
-/// entered, the innermost last.
+/// How many items a list holds at most whose room the next call uses. A longer one is given back.
+const MOST_KEPT: usize = 2_048;
+
+/// Cells that calls run over, one after another, with lists that each call fills anew, in the room that the one before has left: the inverses of what it did, first
+/// to last; how many of them there were where each open level was entered, the innermost last; and the locks that it asked for.
 #[derive(Drop)]
-struct OverCells<A: Allocator> {
-    cells: Cells<A>,
-    inverses: Vec<Inverse, A>,
-    marks: Vec<usize, A>,
+pub(crate) struct OverCells<A: Allocator> {
+    pub(crate) cells: Cells<A>,
+    pub(crate) inverses: Vec<Inverse, A>,
+    pub(crate) marks: Vec<usize, A>,
+    pub(crate) asked: Vec<Held, A>,
+}
+
+impl<A: Allocator + Copy> OverCells<A> {
+    /// These cells, over which no call has run yet.
+    pub(crate) fn of(alloc: A, cells: Cells<A>) -> Self
+        ensures { result.cells ≡ cells }
+    {
+        OverCells {
+            cells,
+            inverses: Vec::new(alloc),
+            marks: Vec::new(alloc),
+            asked: Vec::new(alloc),
+        }
+    }
+}
+
+/// Empties a list, and gives its room back where that is large.
+pub(crate) fn empty_list<T: Drop, A: Allocator>(list: &mut Vec<T, A>)
+    ensures { list.new.items ≡ [] }
+{
+    list.clear();
+    list.shrink_to(MOST_KEPT);
 }
 
 impl<A: Allocator + Copy> Storage for OverCells<A> {
@@ -52,37 +82,73 @@ impl<A: Allocator + Copy> Storage for OverCells<A> {
     }
 }
 
-/// Runs a call over the cells by the rules of this version, and answers its run with the inverses of its operations, first to last. After a refusal of
-/// memory the cells are as they were.
+/// Runs a call over the cells by the rules of this version, and answers its run. The inverses are then of its operations. After a refusal of memory the
+/// cells are as they were.
 pub(crate) fn play<'a, A: Allocator + Copy>(
     alloc: A,
     contracts: &'a [Contract<A>],
     call: &'a Call,
-    cells: &mut Cells<A>,
+    over: &mut OverCells<A>,
     version: Version,
-) -> Result<(Finished<'a, A>, Vec<Inverse, A>), NoMemory>
-    requires { cells.old.unsettled ≡ finite.empty }
-    ensures ok { IfOk result (λ r. IsPlayedOver (setting_view version contracts.now) call.now cells.old r.0 cells.new r.1.items) }
-    ensures err { OnErr result (cells.new ≡ cells.old) }
+) -> Result<Finished<'a, A>, NoMemory>
+    requires { over.old.cells.unsettled ≡ finite.empty }
+    ensures ok { IfOk result (λ f. IsPlayedOver (setting_view version contracts.now) call.now over.old.cells f over.new.cells over.new.inverses.items) }
+    ensures err { OnErr result (over.new.cells ≡ over.old.cells) }
 {
-    cells.use_invariant();
-    let taken = mem::replace(cells, Cells::new(alloc));
-    let mut storage = OverCells {
-        cells: taken,
-        inverses: Vec::new(alloc),
-        marks: Vec::new(alloc),
-    };
-    let played = play_over(alloc, contracts, call, version, &mut storage);
-    let OverCells {
-        cells: now,
-        inverses,
-        marks: _,
-    } = storage;
-    *cells = now;
-    match played {
-        Ok(finished) => Ok((finished, inverses)),
+    over.cells.use_invariant();
+    empty_list(&mut over.inverses);
+    empty_list(&mut over.marks);
+    match play_over(alloc, contracts, call, version, over) {
+        Ok(finished) => Ok(finished),
         Err(NoMemory) => {
-            end_all(cells, inverses, false);
+            take_back_to(&mut over.cells, &mut over.inverses, 0);
+            Err(NoMemory)
+        }
+    }
+}
+
+/// Begins a call in the place of the one before, where there is one.
+pub(crate) fn begin_in<'a, A: Allocator + Copy>(
+    alloc: A,
+    contracts: &'a [Contract<A>],
+    call: &'a Call,
+    machine: &mut Option<Machine<'a, A>>,
+    version: Version,
+) -> Result<(), StartRefusal>
+    ensures there { OnOk result (IsSome machine.new) }
+    ensures start { OnOk result (IfSome machine.new (IsStartOf (setting_view version contracts.now) call.now)) }
+{
+    match machine {
+        Some(before) => before.start_again(contracts, call, version),
+        None => {
+            let first = Machine::start_as(alloc, contracts, call, version)?;
+            *machine = Some(first);
+            Ok(())
+        }
+    }
+}
+
+/// Runs a call that a machine has begun over the cells. The inverses are then of its operations. After a refusal of memory the cells are as they were.
+pub(crate) fn run_in<'a, A: Allocator + Copy>(
+    machine: &mut Machine<'a, A>,
+    over: &mut OverCells<A>,
+) -> Result<(), NoMemory>
+    requires free { IsFree machine.old.status }
+    requires first { machine.old.trace ≡ [] }
+    requires limit { machine.old.call.fuel < 2 ^ 64 }
+    requires settled { over.old.cells.unsettled ≡ finite.empty }
+    ensures same { OnOk result (IsSameCall machine.old machine.new) }
+    ensures ended { OnOk result (IsEnded machine.new.status) }
+    ensures done { OnOk result (AreDone over.old.cells machine.new.trace over.new.cells over.new.inverses.items) }
+    ensures err { OnErr result (over.new.cells ≡ over.old.cells) }
+{
+    over.cells.use_invariant();
+    empty_list(&mut over.inverses);
+    empty_list(&mut over.marks);
+    match run_on(machine, over) {
+        Ok(()) => Ok(()),
+        Err(NoMemory) => {
+            take_back_to(&mut over.cells, &mut over.inverses, 0);
             Err(NoMemory)
         }
     }

@@ -95,6 +95,25 @@ fn do_next<'a, A: Allocator + Copy, S: Storage>(
     }
 }
 
+/// Runs a call that starts to its end, and leaves the machine there.
+pub(crate) fn run_on<'a, A: Allocator + Copy, S: Storage>(
+    machine: &mut Machine<'a, A>,
+    storage: &mut S,
+) -> Result<(), S::Refusal>
+    requires free { IsFree machine.old.status }
+    requires first { machine.old.trace ≡ [] }
+    requires limit { machine.old.call.fuel < 2 ^ 64 }
+    requires led { S.led storage.old [] storage.old }
+    ensures same { OnOk result (IsSameCall machine.old machine.new) }
+    ensures ended { OnOk result (IsEnded machine.new.status) }
+    ensures led { OnOk result (S.led storage.old machine.new.trace storage.new) }
+    ensures rest { OnErr result (AreSomeLeft S.left storage.old storage.new) }
+{
+    let mut asked = 0;
+    'operations: while do_next(machine, storage, &mut asked)? {}
+    Ok(())
+}
+
 /// Runs a call that starts to its end.
 fn run_over<'a, A: Allocator + Copy, S: Storage>(
     mut machine: Machine<'a, A>,
@@ -109,8 +128,7 @@ fn run_over<'a, A: Allocator + Copy, S: Storage>(
     ensures led { IfOk result (λ finished. S.led storage.old finished.trace storage.new) }
     ensures rest { OnErr result (AreSomeLeft S.left storage.old storage.new) }
 {
-    let mut asked = 0;
-    'operations: while do_next(&mut machine, storage, &mut asked)? {}
+    run_on(&mut machine, storage)?;
     match machine.finish() {
         Ok(finished) => Ok(finished),
         Err(_) => unreachable!(),

@@ -1,5 +1,5 @@
 // The end of a call's changes: they stand, or are taken back.
-ghost use Rattle.std.specs.Prelude.{◌≡◌, ◌≤◌, if◌then◌else◌, length, take, drop};
+ghost use Rattle.std.specs.Prelude.{◌≡◌, ◌≤◌, [], if◌then◌else◌, length, take, drop};
 ghost use Rattle.spec_ledger.specs.Book.{back_all, has_returned};
 ghost use Rattle.std.specs.FinMap as finite;
 ghost use Rattle.storage.specs.Counts.{AreUnsettled, closed_all};
@@ -64,16 +64,23 @@ pub fn end_all<A: Allocator + Copy>(cells: &mut Cells<A>, inverses: Vec<Inverse,
 }
 
 /// Ends the changes of a call that ran alone: none but its own are unsettled. They stand, all at once, or are taken back, last first. Either takes no memory.
-pub fn end_alone<A: Allocator + Copy>(cells: &mut Cells<A>, inverses: Vec<Inverse, A>, stand: bool)
-    requires unsettled { AreUnsettled inverses.items cells.old.unsettled }
-    requires alone { closed_all inverses.items cells.old.unsettled ≡ finite.empty }
-    ensures cells { cells.new.cells ≡ (if stand then cells.old.cells else back_all inverses.items cells.old.cells) }
+/// The list is left empty, with its room.
+pub fn end_alone<A: Allocator + Copy>(
+    cells: &mut Cells<A>,
+    inverses: &mut Vec<Inverse, A>,
+    stand: bool,
+)
+    requires unsettled { AreUnsettled inverses.old.items cells.old.unsettled }
+    requires alone { closed_all inverses.old.items cells.old.unsettled ≡ finite.empty }
+    ensures cells { cells.new.cells ≡ (if stand then cells.old.cells else back_all inverses.old.items cells.old.cells) }
     ensures unsettled { cells.new.unsettled ≡ finite.empty }
+    ensures inverses { inverses.new.items ≡ [] }
 {
     if stand {
         cells.settle_everything();
+        inverses.clear();
     } else {
-        take_all_back(cells, inverses);
+        take_back_to(cells, inverses, 0);
     }
 }
 

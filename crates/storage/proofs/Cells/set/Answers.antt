@@ -1,5 +1,5 @@
-use Rattle.std.proofs.Common.{◌≡◌, ◌∙◌, None, ap, subst, sym}
-use Rattle.spec_ledger.specs.Cells.{set_at, AreCells, AreOfTheirTypes}
+use Rattle.std.proofs.Common.{◌≡◌, ◌∙◌, None, ap, sym}
+use Rattle.spec_ledger.specs.Cells.{set_at, AreOfTheirTypes}
 use Rattle.storage.specs.Slots.{base_of, cells_in, counts_in}
 use Rattle.storage.proofs.Slots.{same_store, on_any_err, fits_set, fewer_yet, none_emptied, types_written, AreCells-set}
 use Rattle.storage.proofs.Cells.set.Goals as goal

@@ -1,6 +1,6 @@
 use Rattle.std.proofs.Common.{◌≤◌, ◌<◌, ◌^◌}
 use Rattle.interp.specs.Progress.{IsSameCall, IsFree, left_of}
-use Rattle.serial.proofs.storage_loop.run_over.Given as goal
+use Rattle.serial.proofs.storage_loop.run_on.Given as goal
 
 abbrev pub invariant-operations : goal.invariant-operations
 invariant-operations g l = record {
