@@ -5,9 +5,10 @@ ghost use Rattle.in_order.specs.Progress.{IsKnown, IsProgressOf};
 
 use crate::turns::do_next;
 use crate::{InOrder, OrderProgress};
+use lock_profile::Touched;
 use pace::{Pace, Step, must_stop_at, threads};
 use serial::Runner;
-use spec_ledger::{NoMemory, Receipt};
+use spec_ledger::{NoMemory, Receipt, goes_with};
 use std::alloc::Allocator;
 use std::sync::atomic::Ordering;
 
@@ -16,6 +17,9 @@ const FIRST: usize = 16;
 
 /// How many calls are run by one thread whatever they are.
 const FEW: usize = 32;
+
+/// How many times as many calls run before any thread is started, where each has to wait for the one before it: to start threads takes as long as some fifty short calls.
+const CHAINED: usize = 32;
 
 /// Tells the pace the beginning of a call, and asks whether it stops the thread.
 pub(crate) fn must_stop_before<P: Pace>(pace: &P, call: u32) -> bool {
@@ -76,6 +80,29 @@ fn fuel_from(receipts: &[Receipt], position: usize) -> u64 {
     fuel
 }
 
+/// Whether a call has to wait for another: they hold a lock in modes that do not go together.
+fn has_to_wait<A: Allocator>(before: &Touched<A>, call: &Touched<A>) -> bool {
+    let held = before.lock_modes();
+    for wanted in call.lock_modes() {
+        if let Ok(at) = held.binary_search_by_key(&wanted.lock, |it| it.lock) {
+            if !goes_with(held[at].mode, wanted.mode) {
+                return true;
+            }
+        }
+    }
+    false
+}
+
+/// Whether each call from a position on, but the first, has to wait for the one before it.
+fn is_chain<A: Allocator>(touched: &[Touched<A>], from: usize) -> bool {
+    for at in from..touched.len() {
+        if at > from && !has_to_wait(&touched[at - 1], &touched[at]) {
+            return false;
+        }
+    }
+    true
+}
+
 /// What the first calls came to, and by how many threads the others run.
 #[derive(Drop)]
 pub(crate) struct Begun<A: Allocator> {
@@ -84,7 +111,8 @@ pub(crate) struct Begun<A: Allocator> {
     pub(crate) threads: u32,
 }
 
-/// Runs some calls straight, where there are so many that other threads may be wanted, and reckons by them how many threads are.
+/// Runs some calls straight, where there are so many that other threads may be wanted, and more as long as each has to wait for the one before it. Reckons by the last
+/// of them how many threads are wanted.
 pub(crate) fn begin_straight<'a, A: Allocator + Copy, P: Pace>(
     job: &InOrder<'_, 'a, A, P>,
     runner: &mut Runner<'a, A>,
@@ -95,16 +123,25 @@ pub(crate) fn begin_straight<'a, A: Allocator + Copy, P: Pace>(
     requires ran { IsProgressOf job.now ran }
     ensures ran { IfOk result (λ begun. IsProgressOf job.now begun.ran) }
 {
-    let from = ran.receipts.len();
-    let left = job.order.len().saturating_sub(from);
+    let left = job.order.len().saturating_sub(ran.receipts.len());
     if workers < 2 || left <= FEW {
         return Ok(Begun { ran, threads: 1 });
     }
-    let StraightRun { ran, stops } = run_to(job, runner, ran, from + FIRST)?;
+    let mut came = StraightRun { ran, stops: false };
+    for _ in 0..CHAINED {
+        let done = came.ran.receipts.len();
+        came = run_to(job, runner, came.ran, done.saturating_add(FIRST))?;
+        if came.stops || !is_chain(&came.ran.touched, done) {
+            break;
+        }
+    }
+    let StraightRun { ran, stops } = came;
     if stops {
         return Ok(Begun { ran, threads: 0 });
     }
-    let fuel = fuel_from(&ran.receipts, from);
-    let threads = threads(workers, fuel, FIRST as u32, (left - FIRST) as u32);
+    let done = ran.receipts.len();
+    let fuel = fuel_from(&ran.receipts, done.saturating_sub(FIRST));
+    let left = job.order.len().saturating_sub(done);
+    let threads = threads(workers, fuel, FIRST as u32, left as u32);
     Ok(Begun { ran, threads })
 }
